@@ -1,0 +1,13 @@
+use borrow.Author.Needs.{needs}
+use Rattle.packet.specs.Cases.{cases}
+use Rattle.packet.proofs.dwords.Statement.{statement}
+use Rattle.packet.proofs.dwords.Tie as tie
+
+returns : tie.Need-returns
+returns c = (search cases depth 14, search needs)
+
+returns-2 : tie.Need-returns-2
+returns-2 c = (search cases depth 14, search needs)
+
+pub dwords-spec : {M : Type 1} → statement M
+dwords-spec = tie.close (tie.spec returns returns-2)

@@ -1,0 +1,18 @@
+-- What closes a `return`: the tests that led there say which case of a definition holds.
+use mathlib.Core.Path.{_≡_, refl, sym, ap, _∙_}
+use mathlib.Core.Bool.{Bool, true, false, cond, not, _&&_}
+use borrow.Author.Tests.{lt-ltb, le-ltb, le-leb, lt-leb, eq-eqb, ne-eqb}
+
+pub take-case : {A : Type 0} (t : Bool) (a b x : A) → t ≡ true → x ≡ a → x ≡ cond t a b
+take-case t a b x e q = q ∙ sym (ap (λ (u : Bool). cond u a b) e)
+
+pub skip-case : {A : Type 0} (t : Bool) (a b x : A) → t ≡ false → x ≡ b → x ≡ cond t a b
+skip-case t a b x e q = q ∙ sym (ap (λ (u : Bool). cond u a b) e)
+
+pub and-next : (t u x : Bool) → t ≡ true → x ≡ u → x ≡ (t && u)
+and-next t u x e q = q ∙ sym (ap (λ (s : Bool). s && u) e)
+
+pub and-stop : (t u : Bool) → t ≡ false → false ≡ (t && u)
+and-stop t u e = sym (ap (λ (s : Bool). s && u) e)
+
+pub ruleset cases = (take-case, skip-case, and-next, and-stop, lt-ltb, le-ltb, le-leb, lt-leb, eq-eqb, ne-eqb)

@@ -1,0 +1,86 @@
+-- The first column of the table of kinds: what byte 0, and for a message byte 7, say of a packet.
+use Prim.Native.Nat.{ℕ, _+_, _*_}
+use mathlib.Core.Bool.{Bool, true, false, cond}
+use lib.Dec.{eqb}
+use Rattle.packet.specs.declared.Choice.{Choice}
+use Rattle.packet.specs.declared.Choice.the-variants.{Listed, Unlisted}
+use Rattle.packet.specs.declared.Form.{Form}
+use Rattle.packet.specs.declared.Form.the-variants.{Mrd32, Mrd64, Mwr32, Mwr64, CplNoData, CplData, InvReq, InvCpl, PageReq, PrgResp}
+
+-- byte 0 chooses the form, and among messages byte 7 does; what neither lists has none
+unfoldable pub choose : ℕ → ℕ → Choice
+choose b0 b7 =
+    cond (eqb b0 0x00) (Listed Mrd32)
+    (cond (eqb b0 0x20) (Listed Mrd64)
+    (cond (eqb b0 0x40) (Listed Mwr32)
+    (cond (eqb b0 0x60) (Listed Mwr64)
+    (cond (eqb b0 0x0A) (Listed CplNoData)
+    (cond (eqb b0 0x4A) (Listed CplData)
+    (cond (eqb b0 0x72) (cond (eqb b7 0x01) (Listed InvReq) Unlisted)
+    (cond (eqb b0 0x32) (cond (eqb b7 0x02) (Listed InvCpl) (cond (eqb b7 0x05) (Listed PrgResp) Unlisted))
+    (cond (eqb b0 0x30) (cond (eqb b7 0x04) (Listed PageReq) Unlisted)
+    Unlisted))))))))
+
+-- byte 0 of each form
+abbrev pub firstOf : Form → ℕ
+firstOf Mrd32 = 0x00
+firstOf Mrd64 = 0x20
+firstOf Mwr32 = 0x40
+firstOf Mwr64 = 0x60
+firstOf CplNoData = 0x0A
+firstOf CplData = 0x4A
+firstOf InvReq = 0x72
+firstOf InvCpl = 0x32
+firstOf PageReq = 0x30
+firstOf PrgResp = 0x32
+
+-- Headers are 12 bytes for 00h, 40h, 0Ah and 4Ah, and 16 for the rest.
+abbrev pub headerOf : Form → ℕ
+headerOf Mrd32 = 12
+headerOf Mrd64 = 16
+headerOf Mwr32 = 12
+headerOf Mwr64 = 16
+headerOf CplNoData = 12
+headerOf CplData = 12
+headerOf InvReq = 16
+headerOf InvCpl = 16
+headerOf PageReq = 16
+headerOf PrgResp = 16
+
+-- 4 × Length bytes follow 40h, 60h, 4Ah and 72h only.
+abbrev pub carries : Form → Bool
+carries Mrd32 = false
+carries Mrd64 = false
+carries Mwr32 = true
+carries Mwr64 = true
+carries CplNoData = false
+carries CplData = true
+carries InvReq = true
+carries InvCpl = false
+carries PageReq = false
+carries PrgResp = false
+
+-- Length counts DWORDs, and 0 means 1024.
+abbrev pub dwordsOf : ℕ → ℕ
+dwordsOf w = cond (eqb w 0) 1024 w
+
+-- the length that byte 0 and Length give
+abbrev pub lengthOf : Form → ℕ → ℕ
+lengthOf m w = cond (carries m) (headerOf m + dwordsOf w * 4) (headerOf m)
+
+-- the bytes before the payload: the header, and the body of an Invalidate Request, which holds fields
+abbrev pub fixedOf : Form → ℕ
+fixedOf Mrd32 = 12
+fixedOf Mrd64 = 16
+fixedOf Mwr32 = 12
+fixedOf Mwr64 = 16
+fixedOf CplNoData = 12
+fixedOf CplData = 12
+fixedOf InvReq = 24
+fixedOf InvCpl = 16
+fixedOf PageReq = 16
+fixedOf PrgResp = 16
+
+-- byte 7 of a MEM packet
+abbrev pub lanesOf : ℕ → ℕ
+lanesOf w = cond (eqb w 1) 0x0F 0xFF

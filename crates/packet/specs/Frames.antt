@@ -1,0 +1,60 @@
+-- Bytes are numbered as sent, high byte first. A header taken apart into a frame, and a frame spelled as bytes.
+use Prim.Native.Nat.{ℕ, _+_, _*_, _/_, _%_}
+use mathlib.Core.Bool.{Bool, cond}
+use mathlib.Core.List.{List, [], _∷_, _++_}
+use lib.ListN.{getD, length}
+use lib.Dec.{ltb}
+use Rattle.packet.specs.declared.Frame.{Frame}
+
+-- byte i of a packet
+abbrev pub byte : List ℕ → ℕ → ℕ
+byte b i = getD b i 0
+
+-- the number that the two, four or eight bytes from byte i on spell
+abbrev pub num16At : List ℕ → ℕ → ℕ
+num16At b i = byte b i * 256 + byte b (i + 1)
+
+abbrev pub num32At : List ℕ → ℕ → ℕ
+num32At b i = num16At b i * 65536 + num16At b (i + 2)
+
+abbrev pub num64At : List ℕ → ℕ → ℕ
+num64At b i = num32At b i * 4294967296 + num32At b (i + 4)
+
+-- Length, in bits 1:0 of byte 2 with byte 3
+abbrev pub wordsAt : List ℕ → ℕ
+wordsAt b = byte b 2 % 4 * 256 + byte b 3
+
+-- Byte 1 has TC in bits 6:4; byte 2 has TD and EP in bits 7:6 and AT in bits 3:2; bytes 4 and 5 are the
+-- sender's ID. What stands from byte 12 on is 0 in a packet that ends before byte 16, and the body in one that ends before byte 24.
+unfoldable pub frameOf : List ℕ → Frame
+frameOf b =
+    record {
+      byte0 = byte b 0;
+      tc = byte b 1 / 16 % 8;
+      marks = byte b 2 / 64;
+      at = byte b 2 / 4 % 4;
+      words = wordsAt b;
+      sender = num16At b 4;
+      byte6 = byte b 6;
+      byte7 = byte b 7;
+      dword8 = num32At b 8;
+      dword12 = cond (ltb (length b) 16) 0 (num32At b 12);
+      body = cond (ltb (length b) 24) 0 (num64At b 16);
+    }
+
+-- the four bytes that spell a DWORD
+abbrev pub four : ℕ → List ℕ
+four n = (n / 16777216 % 256) ∷ (n / 65536 % 256) ∷ (n / 256 % 256) ∷ (n % 256) ∷ []
+
+-- the 24 bytes that spell a frame; TD, EP and every unnamed bit are zero
+abbrev pub spelled : Frame → List ℕ
+spelled f =
+    f .byte0
+    ∷ (f .tc % 8 * 16)
+    ∷ (f .at % 4 * 4 + f .words / 256 % 4)
+    ∷ (f .words % 256)
+    ∷ (f .sender / 256 % 256)
+    ∷ (f .sender % 256)
+    ∷ f .byte6
+    ∷ f .byte7
+    ∷ (four (f .dword8) ++ four (f .dword12) ++ four (f .body / 4294967296) ++ four (f .body % 4294967296))

@@ -1,0 +1,346 @@
+-- The rest of the table of kinds: the fields of each kind in a frame, the frame of a packet, what is forbidden, and what its bits hold.
+use Prim.Native.Nat.{ℕ, _+_, _*_, _/_, _%_}
+use mathlib.Core.Bool.{Bool, true, false, cond, not, _&&_}
+use lib.Dec.{ltb, leb, eqb}
+use Rattle.packet.specs.declared.Frame.{Frame}
+use Rattle.packet.specs.declared.Form.{Form}
+use Rattle.packet.specs.declared.Form.the-variants.{Mrd32, Mrd64, Mwr32, Mwr64, CplNoData, CplData, InvReq, InvCpl, PageReq, PrgResp}
+use Rattle.packet.specs.declared.Head.{Head}
+use Rattle.packet.specs.declared.Access.{Access}
+use Rattle.packet.specs.declared.Access.the-variants.{Read, Write}
+use Rattle.packet.specs.declared.Outcome.{Outcome}
+use Rattle.packet.specs.declared.Outcome.the-variants.{Data, Status}
+use Rattle.packet.specs.declared.Body.{Body}
+use Rattle.packet.specs.declared.Body.the-variants.{Tr, Mem, Cpl, Inv, Ic, Prq, Prs}
+use Rattle.packet.specs.declared.Packet.{Packet}
+use Rattle.packet.specs.Forms.{firstOf, dwordsOf, lanesOf}
+
+-- ---- the fields of a frame
+
+abbrev pub headIn : Frame → Head
+headIn f = record { tc = f .tc; sender = f .sender }
+
+-- the address of the 64-bit forms, and what a Page Request has in its place
+abbrev pub longIn : Frame → ℕ
+longIn f = f .dword8 * 4294967296 + f .dword12
+
+-- TR: byte 6 is the Tag; of the address as it stands, a, bits 11:0 are no part, and bit 0 is No Write
+abbrev pub trIn : Frame → ℕ → Body
+trIn f a =
+    Tr (record { tag = record { 0 = f .byte6 }; words = f .words; address = a / 4096 * 4096; nowrite = eqb (a % 2) 1 })
+
+-- MEM: bits 1:0 of the address are unnamed; AT 10 is translated
+abbrev pub memIn : Frame → Access → ℕ → Body
+memIn f access a = Mem (record { access = access; words = f .words; address = a / 4 * 4; translated = eqb (f .at) 2 })
+
+-- 00h and 20h are a TR with AT 01, else a MEM read, whose byte 6 is the Tag
+abbrev pub fetchIn : Frame → ℕ → Body
+fetchIn f a = cond (eqb (f .at) 1) (trIn f a) (memIn f (Read (record { 0 = f .byte6 })) a)
+
+-- Byte Count: the low 4 bits of byte 6 with byte 7
+abbrev pub countIn : Frame → ℕ
+countIn f = f .byte6 % 16 * 256 + f .byte7
+
+-- CPL: bytes 8-9 Requester ID, 10 Tag, 11 bits 6:0 Lower Address
+abbrev pub cplIn : Frame → Outcome → Body
+cplIn f outcome =
+    Cpl
+    (record {
+      outcome = outcome;
+      count = countIn f;
+      requester = f .dword8 / 65536;
+      tag = record { 0 = f .dword8 / 256 % 256 };
+      lower = f .dword8 % 128;
+    })
+
+-- INV: byte 6 bits 4:0 ITag; bytes 8-9 Device ID; the body has the address in bits 63:12 and S in bit 11
+abbrev pub invIn : Frame → Body
+invIn f =
+    Inv
+    (record {
+      itag = record { 0 = f .byte6 % 32 };
+      device = f .dword8 / 65536;
+      address = f .body / 4096 * 4096;
+      sized = eqb (f .body / 2048 % 2) 1;
+    })
+
+-- IC: bytes 8-9 Device ID, byte 11 bits 2:0 CC, bytes 12-15 the vector
+abbrev pub icIn : Frame → Body
+icIn f = Ic (record { device = f .dword8 / 65536; cc = f .dword8 % 8; vector = f .dword12 })
+
+-- PRQ: from byte 8 on page address 63:12, PRG index in bits 11:3, L in 2, W in 1, R in 0
+abbrev pub prqIn : ℕ → Body
+prqIn a =
+    Prq
+    (record {
+      page = a / 4096 * 4096;
+      index = record { 0 = a / 8 % 512 };
+      last = eqb (a / 4 % 2) 1;
+      write = eqb (a / 2 % 2) 1;
+      read = eqb (a % 2) 1;
+    })
+
+-- PRS: bytes 8-9 Device ID; of bytes 10-11, the code in bits 15:12 and the PRG index in bits 8:0
+abbrev pub prsIn : Frame → Body
+prsIn f =
+    Prs
+    (record {
+      device = f .dword8 / 65536;
+      code = f .dword8 / 4096 % 16;
+      index = record { 0 = f .dword8 % 512 };
+    })
+
+unfoldable pub bodyIn : Form → Frame → Body
+bodyIn Mrd32 f = fetchIn f (f .dword8)
+bodyIn Mrd64 f = fetchIn f (longIn f)
+bodyIn Mwr32 f = memIn f Write (f .dword8)
+bodyIn Mwr64 f = memIn f Write (longIn f)
+bodyIn CplNoData f = cplIn f (Status (f .byte6 / 32))
+bodyIn CplData f = cplIn f (Data (f .words))
+bodyIn InvReq f = invIn f
+bodyIn InvCpl f = icIn f
+bodyIn PageReq f = prqIn (longIn f)
+bodyIn PrgResp f = prsIn f
+
+abbrev pub packetIn : Form → Frame → Packet
+packetIn m f = record { head = headIn f; body = bodyIn m f }
+
+-- ---- forbidden values that no field of a packet could hold: they are seen in the frame alone
+
+-- MEM: AT 00 or 10, and byte 7 as its Length asks
+abbrev pub shapedMem : Frame → Bool
+shapedMem f = eqb (f .at % 2) 0 && eqb (f .byte7) (lanesOf (f .words))
+
+abbrev pub shapedFetch : Frame → Bool
+shapedFetch f = cond (eqb (f .at) 1) (eqb (f .byte7) 0xFF) (shapedMem f)
+
+-- the 64-bit form has an upper half that is not zero
+abbrev pub shapedLong : Frame → Bool → Bool
+shapedLong f rest = ltb 0 (f .dword8) && rest
+
+-- status 000 with data; Length 2 in an INV
+unfoldable pub shaped : Form → Frame → Bool
+shaped Mrd32 f = shapedFetch f
+shaped Mrd64 f = shapedLong f (shapedFetch f)
+shaped Mwr32 f = shapedMem f
+shaped Mwr64 f = shapedLong f (shapedMem f)
+shaped CplNoData f = true
+shaped CplData f = eqb (f .byte6 / 32) 0
+shaped InvReq f = eqb (f .words) 2
+shaped InvCpl f = true
+shaped PageReq f = true
+shaped PrgResp f = true
+
+-- ---- forbidden values of fields
+
+abbrev pub shortEnough : ℕ → Bool
+shortEnough w = leb (dwordsOf w) 32
+
+abbrev pub evenAndShort : ℕ → Bool
+evenAndShort w = eqb (w % 2) 0 && shortEnough w
+
+-- S set and bits 63:12 all ones is no size
+abbrev pub hasSize : ℕ → Bool → Bool
+hasSize a s = cond s (not (eqb (a / 4096) 0xF_FFFF_FFFF_FFFF)) true
+
+abbrev pub allowedOutcome : Outcome → Bool
+allowedOutcome (Data w) = shortEnough w
+allowedOutcome (Status s) = not (eqb s 2)
+
+-- Length of a TR even, not 0 and at most 32, of a MEM or a completion with data at most 32; status 010; TC of PRQ and PRS 0
+unfoldable pub allowedBody : ℕ → Body → Bool
+allowedBody tc (Tr t) = evenAndShort (t .words)
+allowedBody tc (Mem m) = shortEnough (m .words)
+allowedBody tc (Cpl c) = allowedOutcome (c .outcome)
+allowedBody tc (Inv i) = hasSize (i .address) (i .sized)
+allowedBody tc (Ic i) = true
+allowedBody tc (Prq q) = eqb tc 0
+allowedBody tc (Prs s) = eqb tc 0
+
+abbrev pub allowed : Packet → Bool
+allowed p = allowedBody (p .head .tc) (p .body)
+
+-- ---- a field outside its bits, low address bits that have no place among them
+
+abbrev pub withinOutcome : Outcome → Bool
+withinOutcome (Data w) = ltb w 1024
+withinOutcome (Status s) = ltb s 8
+
+unfoldable pub withinBody : Body → Bool
+withinBody (Tr t) = ltb (t .words) 1024 && eqb (t .address % 4096) 0
+withinBody (Mem m) = ltb (m .words) 1024 && eqb (m .address % 4) 0
+withinBody (Cpl c) = ltb (c .count) 4096 && (ltb (c .lower) 128 && withinOutcome (c .outcome))
+withinBody (Inv i) = ltb (i .itag .0) 32 && eqb (i .address % 4096) 0
+withinBody (Ic i) = ltb (i .cc) 8
+withinBody (Prq q) = eqb (q .page % 4096) 0 && ltb (q .index .0) 512
+withinBody (Prs s) = ltb (s .code) 16 && ltb (s .index .0) 512
+
+abbrev pub within : Packet → Bool
+within p = ltb (p .head .tc) 8 && withinBody (p .body)
+
+-- ---- the payload of a packet: 4 × Length bytes in a MEM write and a completion with data
+
+abbrev pub accessLoad : Access → ℕ → ℕ
+accessLoad (Read tag) w = 0
+accessLoad Write w = dwordsOf w * 4
+
+abbrev pub outcomeLoad : Outcome → ℕ
+outcomeLoad (Data w) = dwordsOf w * 4
+outcomeLoad (Status s) = 0
+
+unfoldable pub loadOf : Body → ℕ
+loadOf (Tr t) = 0
+loadOf (Mem m) = accessLoad (m .access) (m .words)
+loadOf (Cpl c) = outcomeLoad (c .outcome)
+loadOf (Inv i) = 0
+loadOf (Ic i) = 0
+loadOf (Prq q) = 0
+loadOf (Prs s) = 0
+
+-- ---- the form and the frame of a packet
+
+-- a 64-bit form only where the address needs it
+abbrev pub wide : ℕ → Bool
+wide a = leb 4294967296 a
+
+abbrev pub accessForm : Access → ℕ → Form
+accessForm (Read tag) a = cond (wide a) Mrd64 Mrd32
+accessForm Write a = cond (wide a) Mwr64 Mwr32
+
+abbrev pub outcomeForm : Outcome → Form
+outcomeForm (Data w) = CplData
+outcomeForm (Status s) = CplNoData
+
+unfoldable pub formOf : Body → Form
+formOf (Tr t) = cond (wide (t .address)) Mrd64 Mrd32
+formOf (Mem m) = accessForm (m .access) (m .address)
+formOf (Cpl c) = outcomeForm (c .outcome)
+formOf (Inv i) = InvReq
+formOf (Ic i) = InvCpl
+formOf (Prq q) = PageReq
+formOf (Prs s) = PrgResp
+
+-- a flag as a bit
+abbrev pub bitOf : Bool → ℕ
+bitOf b = cond b 1 0
+
+-- bytes 8-11 and 12-15 where an address stands there
+abbrev pub upperOf : ℕ → ℕ
+upperOf a = cond (wide a) (a / 4294967296) a
+
+abbrev pub lowerOf : ℕ → ℕ
+lowerOf a = cond (wide a) (a % 4294967296) 0
+
+abbrev pub accessTag : Access → ℕ
+accessTag (Read tag) = tag .0
+accessTag Write = 0
+
+abbrev pub outcomeWords : Outcome → ℕ
+outcomeWords (Data w) = w
+outcomeWords (Status s) = 0
+
+abbrev pub outcomeStatus : Outcome → ℕ
+outcomeStatus (Data w) = 0
+outcomeStatus (Status s) = s
+
+unfoldable pub framed : Head → Body → Frame
+framed h (Tr t) =
+    let a = t .address / 4096 * 4096 + bitOf (t .nowrite) in
+    record {
+      byte0 = firstOf (formOf (Tr t));
+      tc = h .tc;
+      marks = 0;
+      at = 1;
+      words = t .words;
+      sender = h .sender;
+      byte6 = t .tag .0;
+      byte7 = 0xFF;
+      dword8 = upperOf a;
+      dword12 = lowerOf a;
+      body = 0;
+    }
+framed h (Mem m) =
+    record {
+      byte0 = firstOf (formOf (Mem m));
+      tc = h .tc;
+      marks = 0;
+      at = bitOf (m .translated) * 2;
+      words = m .words;
+      sender = h .sender;
+      byte6 = accessTag (m .access);
+      byte7 = lanesOf (m .words);
+      dword8 = upperOf (m .address);
+      dword12 = lowerOf (m .address);
+      body = 0;
+    }
+framed h (Cpl c) =
+    record {
+      byte0 = firstOf (formOf (Cpl c));
+      tc = h .tc;
+      marks = 0;
+      at = 0;
+      words = outcomeWords (c .outcome);
+      sender = h .sender;
+      byte6 = outcomeStatus (c .outcome) % 8 * 32 + c .count / 256 % 16;
+      byte7 = c .count % 256;
+      dword8 = c .requester * 65536 + c .tag .0 * 256 + c .lower;
+      dword12 = 0;
+      body = 0;
+    }
+framed h (Inv i) =
+    record {
+      byte0 = firstOf InvReq;
+      tc = h .tc;
+      marks = 0;
+      at = 0;
+      words = 2;
+      sender = h .sender;
+      byte6 = i .itag .0;
+      byte7 = 0x01;
+      dword8 = i .device * 65536;
+      dword12 = 0;
+      body = i .address / 4096 * 4096 + bitOf (i .sized) * 2048;
+    }
+framed h (Ic i) =
+    record {
+      byte0 = firstOf InvCpl;
+      tc = h .tc;
+      marks = 0;
+      at = 0;
+      words = 0;
+      sender = h .sender;
+      byte6 = 0;
+      byte7 = 0x02;
+      dword8 = i .device * 65536 + i .cc;
+      dword12 = i .vector;
+      body = 0;
+    }
+framed h (Prq q) =
+    let a = q .page / 4096 * 4096 + q .index .0 % 512 * 8 + bitOf (q .last) * 4 + bitOf (q .write) * 2 + bitOf (q .read) in
+    record {
+      byte0 = firstOf PageReq;
+      tc = h .tc;
+      marks = 0;
+      at = 0;
+      words = 0;
+      sender = h .sender;
+      byte6 = 0;
+      byte7 = 0x04;
+      dword8 = a / 4294967296;
+      dword12 = a % 4294967296;
+      body = 0;
+    }
+framed h (Prs s) =
+    record {
+      byte0 = firstOf PrgResp;
+      tc = h .tc;
+      marks = 0;
+      at = 0;
+      words = 0;
+      sender = h .sender;
+      byte6 = 0;
+      byte7 = 0x05;
+      dword8 = s .device * 65536 + s .code % 16 * 4096 + s .index .0 % 512;
+      dword12 = 0;
+      body = 0;
+    }

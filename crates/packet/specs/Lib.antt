@@ -1,0 +1,8 @@
+pub mod Cases
+pub mod Numbers
+pub mod Frames
+pub mod Forms
+pub mod Kinds
+pub mod Reading
+pub mod Writing
+pub mod Normal

@@ -1,0 +1,280 @@
+// What a packet is: the three numbers that name things, the seventeen refusals, the seven kinds,
+// and the header taken apart. The definitions in specs/ say how bytes and packets go together.
+ghost use mathlib.Core.Path.{_≡_};
+ghost use Prim.Native.Nat.{_≤_};
+ghost use Rattle.packet.specs.Numbers.{numberOf};
+ghost use Rattle.packet.specs.Forms.{dwordsOf, lanesOf, fixedOf};
+ghost use Rattle.packet.specs.Kinds.{shortEnough, evenAndShort, hasSize, allowedOutcome, allowedBody};
+
+// The number of an open request.
+pub struct Tag(pub u8);
+
+// The number of an Invalidate Request.
+pub struct ITag(pub u8);
+
+// The number of a page request group.
+pub struct PrgIndex(pub u16);
+
+// The seventeen refusals, in the order of their numbers.
+pub enum Refusal {
+    Length,
+    Kind,
+    Marked,
+    Forbidden,
+    NotOurs,
+    Disabled,
+    NotOpen,
+    Misfit,
+    StillWaiting,
+    OtherAgent,
+    NoTag,
+    Argument,
+    NoEntry,
+    NoRight,
+    PagesOff,
+    NoCredit,
+    Room,
+}
+
+// What every kind has.
+pub struct Head {
+    pub tc: u8,
+    pub sender: u16,
+}
+
+pub struct TranslationRequest {
+    pub tag: Tag,
+    pub words: u16,
+    pub address: u64,
+    pub nowrite: bool,
+}
+
+// A write has no Tag.
+pub enum Access {
+    Read(Tag),
+    Write,
+}
+
+// Translated is AT 10, else AT 00.
+pub struct MemoryRequest {
+    pub access: Access,
+    pub words: u16,
+    pub address: u64,
+    pub translated: bool,
+}
+
+// Data of so many DWORDs, with status 000; or a status and no data.
+pub enum Outcome {
+    Data(u16),
+    Status(u8),
+}
+
+pub struct Completion {
+    pub outcome: Outcome,
+    pub count: u16,
+    pub requester: u16,
+    pub tag: Tag,
+    pub lower: u8,
+}
+
+// Address and S as the body has them: together they are the size code.
+pub struct InvalidateRequest {
+    pub itag: ITag,
+    pub device: u16,
+    pub address: u64,
+    pub sized: bool,
+}
+
+pub struct InvalidateCompletion {
+    pub device: u16,
+    pub cc: u8,
+    pub vector: u32,
+}
+
+pub struct PageRequest {
+    pub page: u64,
+    pub index: PrgIndex,
+    pub last: bool,
+    pub write: bool,
+    pub read: bool,
+}
+
+pub struct PrgResponse {
+    pub device: u16,
+    pub code: u8,
+    pub index: PrgIndex,
+}
+
+// The seven kinds.
+pub enum Body {
+    Tr(TranslationRequest),
+    Mem(MemoryRequest),
+    Cpl(Completion),
+    Inv(InvalidateRequest),
+    Ic(InvalidateCompletion),
+    Prq(PageRequest),
+    Prs(PrgResponse),
+}
+
+pub struct Packet {
+    pub head: Head,
+    pub body: Body,
+}
+
+// What byte 0, and for a message byte 7, choose among.
+pub enum Form {
+    Mrd32,
+    Mrd64,
+    Mwr32,
+    Mwr64,
+    CplNoData,
+    CplData,
+    InvReq,
+    InvCpl,
+    PageReq,
+    PrgResp,
+}
+
+pub enum Choice {
+    Listed(Form),
+    Unlisted,
+}
+
+// A header taken apart, with the body of an Invalidate Request: each field as it stands in the
+// bytes, named by its place where no one name fits all kinds.
+pub struct Frame {
+    pub byte0: u8,
+    pub tc: u8,
+    pub marks: u8,
+    pub at: u8,
+    pub words: u16,
+    pub sender: u16,
+    pub byte6: u8,
+    pub byte7: u8,
+    pub dword8: u32,
+    pub dword12: u32,
+    pub body: u64,
+}
+
+// What reading answers.
+pub enum Reading {
+    Read(Packet),
+    Refused(Refusal),
+}
+
+// What writing answers: the packet's length, or a refusal.
+pub enum Writing {
+    Written(usize),
+    Refused(Refusal),
+}
+
+// The number of a refusal in document 01.
+pub fn number(r: Refusal) -> u8
+    ensures { λ n. ⌜ n ≡ numberOf r ⌝ }
+{
+    match r {
+        Refusal::Length => 1,
+        Refusal::Kind => 2,
+        Refusal::Marked => 3,
+        Refusal::Forbidden => 4,
+        Refusal::NotOurs => 5,
+        Refusal::Disabled => 6,
+        Refusal::NotOpen => 7,
+        Refusal::Misfit => 8,
+        Refusal::StillWaiting => 9,
+        Refusal::OtherAgent => 10,
+        Refusal::NoTag => 11,
+        Refusal::Argument => 12,
+        Refusal::NoEntry => 13,
+        Refusal::NoRight => 14,
+        Refusal::PagesOff => 15,
+        Refusal::NoCredit => 16,
+        Refusal::Room => 17,
+    }
+}
+
+// The DWORDs that a Length stands for.
+pub fn dwords(words: u16) -> usize
+    ensures { λ r. ⌜ (r ≡ dwordsOf words) × (r ≤ 65535) ⌝ }
+{
+    if words == 0 { 1024 } else { words as usize }
+}
+
+// Byte 7 of a MEM packet of this Length.
+pub fn lanes(words: u16) -> u8
+    ensures { λ r. ⌜ r ≡ lanesOf words ⌝ }
+{
+    if words == 1 { 0x0F } else { 0xFF }
+}
+
+// The bytes before the payload.
+pub fn fixed(m: Form) -> usize
+    ensures { λ r. ⌜ (r ≡ fixedOf m) × (r ≤ 24) ⌝ }
+{
+    match m {
+        Form::Mrd32 => 12,
+        Form::Mrd64 => 16,
+        Form::Mwr32 => 12,
+        Form::Mwr64 => 16,
+        Form::CplNoData => 12,
+        Form::CplData => 12,
+        Form::InvReq => 24,
+        Form::InvCpl => 16,
+        Form::PageReq => 16,
+        Form::PrgResp => 16,
+    }
+}
+
+// Length 32 is the most that a packet here may have.
+fn is_short(words: u16) -> bool
+    ensures { λ r. ⌜ r ≡ shortEnough words ⌝ }
+{
+    dwords(words) <= 32
+}
+
+fn is_allowed_outcome(o: Outcome) -> bool
+    ensures { λ r. ⌜ r ≡ allowedOutcome o ⌝ }
+{
+    match o {
+        Outcome::Data(words) => is_short(words),
+        Outcome::Status(status) => status != 2,
+    }
+}
+
+fn has_size(address: u64, sized: bool) -> bool
+    ensures { λ r. ⌜ r ≡ hasSize address sized ⌝ }
+{
+    if sized {
+        address / 4096 != 0xF_FFFF_FFFF_FFFF
+    } else {
+        true
+    }
+}
+
+fn is_even_and_short(words: u16) -> bool
+    ensures { λ r. ⌜ r ≡ evenAndShort words ⌝ }
+{
+    if words % 2 == 0 {
+        is_short(words)
+    } else {
+        false
+    }
+}
+
+// No field has a forbidden value.
+pub fn is_allowed(tc: u8, body: Body) -> bool
+    ensures { λ r. ⌜ r ≡ allowedBody tc body ⌝ }
+{
+    match body {
+        Body::Tr(t) => is_even_and_short(t.words),
+        Body::Mem(m) => is_short(m.words),
+        Body::Cpl(c) => {
+            let outcome = c.outcome;
+            is_allowed_outcome(outcome)
+        }
+        Body::Inv(i) => has_size(i.address, i.sized),
+        Body::Ic(_) => true,
+        Body::Prq(_) => tc == 0,
+        Body::Prs(_) => tc == 0,
+    }
+}

@@ -1,0 +1,144 @@
+// The fields of each kind, out of a frame.
+use packet::Access;
+use packet::Body;
+use packet::Completion;
+use packet::Form;
+use packet::Frame;
+use packet::Head;
+use packet::ITag;
+use packet::InvalidateCompletion;
+use packet::InvalidateRequest;
+use packet::MemoryRequest;
+use packet::Outcome;
+use packet::PageRequest;
+use packet::PrgIndex;
+use packet::PrgResponse;
+use packet::Tag;
+use packet::TranslationRequest;
+ghost use mathlib.Core.Path.{_≡_};
+ghost use Rattle.packet.specs.Kinds.{headIn, longIn, trIn, memIn, fetchIn, countIn, cplIn, invIn, icIn, prqIn, prsIn, bodyIn};
+
+pub(crate) fn head(f: Frame) -> Head
+    ensures { λ r. ⌜ r ≡ headIn f ⌝ }
+{
+    Head {
+        tc: f.tc,
+        sender: f.sender,
+    }
+}
+
+fn long(f: Frame) -> u64
+    ensures { λ r. ⌜ r ≡ longIn f ⌝ }
+{
+    f.dword8 as u64 * 4294967296 + f.dword12 as u64
+}
+
+fn tr(f: Frame, a: u64) -> Body
+    ensures { λ r. ⌜ r ≡ trIn f a ⌝ }
+{
+    Body::Tr(TranslationRequest {
+        tag: Tag(f.byte6),
+        words: f.words,
+        address: a / 4096 * 4096,
+        nowrite: a % 2 == 1,
+    })
+}
+
+fn mem(f: Frame, access: Access, a: u64) -> Body
+    ensures { λ r. ⌜ r ≡ memIn f access a ⌝ }
+{
+    Body::Mem(MemoryRequest {
+        access,
+        words: f.words,
+        address: a / 4 * 4,
+        translated: f.at == 2,
+    })
+}
+
+fn fetch(f: Frame, a: u64) -> Body
+    ensures { λ r. ⌜ r ≡ fetchIn f a ⌝ }
+{
+    if f.at == 1 {
+        tr(f, a)
+    } else {
+        mem(f, Access::Read(Tag(f.byte6)), a)
+    }
+}
+
+fn cpl(f: Frame, outcome: Outcome) -> Body
+    ensures { λ r. ⌜ r ≡ cplIn f outcome ⌝ }
+{
+    Body::Cpl(Completion {
+        outcome,
+        count: count(f),
+        requester: (f.dword8 / 65536) as u16,
+        tag: Tag((f.dword8 / 256 % 256) as u8),
+        lower: (f.dword8 % 128) as u8,
+    })
+}
+
+fn count(f: Frame) -> u16
+    ensures { λ r. ⌜ r ≡ countIn f ⌝ }
+{
+    f.byte6 as u16 % 16 * 256 + f.byte7 as u16
+}
+
+fn inv(f: Frame) -> Body
+    ensures { λ r. ⌜ r ≡ invIn f ⌝ }
+{
+    Body::Inv(InvalidateRequest {
+        itag: ITag(f.byte6 % 32),
+        device: (f.dword8 / 65536) as u16,
+        address: f.body / 4096 * 4096,
+        sized: f.body / 2048 % 2 == 1,
+    })
+}
+
+fn ic(f: Frame) -> Body
+    ensures { λ r. ⌜ r ≡ icIn f ⌝ }
+{
+    Body::Ic(InvalidateCompletion {
+        device: (f.dword8 / 65536) as u16,
+        cc: (f.dword8 % 8) as u8,
+        vector: f.dword12,
+    })
+}
+
+fn prq(a: u64) -> Body
+    ensures { λ r. ⌜ r ≡ prqIn a ⌝ }
+{
+    Body::Prq(PageRequest {
+        page: a / 4096 * 4096,
+        index: PrgIndex((a / 8 % 512) as u16),
+        last: a / 4 % 2 == 1,
+        write: a / 2 % 2 == 1,
+        read: a % 2 == 1,
+    })
+}
+
+fn prs(f: Frame) -> Body
+    ensures { λ r. ⌜ r ≡ prsIn f ⌝ }
+{
+    Body::Prs(PrgResponse {
+        device: (f.dword8 / 65536) as u16,
+        code: (f.dword8 / 4096 % 16) as u8,
+        index: PrgIndex((f.dword8 % 512) as u16),
+    })
+}
+
+pub(crate) fn fields(m: Form, f: Frame) -> Body
+    ensures { λ r. ⌜ r ≡ bodyIn m f ⌝ }
+{
+    match m {
+        Form::Mrd32 => fetch(f, f.dword8 as u64),
+        Form::Mrd64 => fetch(f, long(f)),
+        Form::Mwr32 => mem(f, Access::Write, f.dword8 as u64),
+        Form::Mwr64 => mem(f, Access::Write, long(f)),
+        Form::CplNoData => cpl(f, Outcome::Status(f.byte6 / 32)),
+        Form::CplData => cpl(f, Outcome::Data(f.words)),
+        Form::InvReq => inv(f),
+        Form::InvCpl => ic(f),
+        Form::PageReq => prq(long(f)),
+        Form::PrgResp => prs(f),
+    }
+}

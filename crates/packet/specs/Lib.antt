@@ -6,3 +6,4 @@ pub mod Kinds
 pub mod Reading
 pub mod Writing
 pub mod Normal
+pub mod Laws

@@ -1,0 +1,298 @@
+// The form and the frame of each kind.
+use packet::Access;
+use packet::Body;
+use packet::Completion;
+use packet::Form;
+use packet::Frame;
+use packet::Head;
+use packet::InvalidateCompletion;
+use packet::InvalidateRequest;
+use packet::MemoryRequest;
+use packet::Outcome;
+use packet::PageRequest;
+use packet::PrgResponse;
+use packet::TranslationRequest;
+use packet::lanes;
+ghost use mathlib.Core.Path.{_≡_};
+ghost use mathlib.Core.Bool.{cond};
+ghost use Prim.Native.Nat.{_≤_};
+ghost use Rattle.packet.specs.declared.Body.the-variants.{Tr, Mem, Cpl, Inv, Ic, Prq, Prs};
+ghost use Rattle.packet.specs.declared.Form.the-variants.{Mrd32, Mrd64, Mwr32, Mwr64};
+ghost use Rattle.packet.specs.Forms.{firstOf};
+ghost use Rattle.packet.specs.Kinds.{wide, accessForm, outcomeForm, formOf, bitOf, upperOf, lowerOf, accessTag, outcomeWords, outcomeStatus, framed};
+
+fn bit(b: bool) -> u8
+    ensures { λ r. ⌜ (r ≡ bitOf b) × (r ≤ 1) ⌝ }
+{
+    if b { 1 } else { 0 }
+}
+
+fn fetch_form(a: u64) -> Form
+    ensures { λ r. ⌜ r ≡ cond (wide a) Mrd64 Mrd32 ⌝ }
+{
+    if 4294967296 <= a {
+        Form::Mrd64
+    } else {
+        Form::Mrd32
+    }
+}
+
+fn store_form(a: u64) -> Form
+    ensures { λ r. ⌜ r ≡ cond (wide a) Mwr64 Mwr32 ⌝ }
+{
+    if 4294967296 <= a {
+        Form::Mwr64
+    } else {
+        Form::Mwr32
+    }
+}
+
+fn access_form(access: Access, a: u64) -> Form
+    ensures { λ r. ⌜ r ≡ accessForm access a ⌝ }
+{
+    match access {
+        Access::Read(_) => fetch_form(a),
+        Access::Write => store_form(a),
+    }
+}
+
+fn outcome_form(o: Outcome) -> Form
+    ensures { λ r. ⌜ r ≡ outcomeForm o ⌝ }
+{
+    match o {
+        Outcome::Data(_) => Form::CplData,
+        Outcome::Status(_) => Form::CplNoData,
+    }
+}
+
+pub(crate) fn form_of(body: Body) -> Form
+    ensures { λ r. ⌜ r ≡ formOf body ⌝ }
+{
+    match body {
+        Body::Tr(t) => fetch_form(t.address),
+        Body::Mem(m) => {
+            let access = m.access;
+            access_form(access, m.address)
+        }
+        Body::Cpl(c) => {
+            let outcome = c.outcome;
+            outcome_form(outcome)
+        }
+        Body::Inv(_) => Form::InvReq,
+        Body::Ic(_) => Form::InvCpl,
+        Body::Prq(_) => Form::PageReq,
+        Body::Prs(_) => Form::PrgResp,
+    }
+}
+
+fn first(m: Form) -> u8
+    ensures { λ r. ⌜ r ≡ firstOf m ⌝ }
+{
+    match m {
+        Form::Mrd32 => 0x00,
+        Form::Mrd64 => 0x20,
+        Form::Mwr32 => 0x40,
+        Form::Mwr64 => 0x60,
+        Form::CplNoData => 0x0A,
+        Form::CplData => 0x4A,
+        Form::InvReq => 0x72,
+        Form::InvCpl => 0x32,
+        Form::PageReq => 0x30,
+        Form::PrgResp => 0x32,
+    }
+}
+
+fn upper(a: u64) -> u32
+    ensures { λ r. ⌜ r ≡ upperOf a ⌝ }
+{
+    if 4294967296 <= a {
+        (a / 4294967296) as u32
+    } else {
+        a as u32
+    }
+}
+
+fn lower(a: u64) -> u32
+    ensures { λ r. ⌜ r ≡ lowerOf a ⌝ }
+{
+    if 4294967296 <= a {
+        (a % 4294967296) as u32
+    } else {
+        0
+    }
+}
+
+fn tr(h: Head, t: TranslationRequest) -> Frame
+    ensures { λ r. ⌜ r ≡ framed h (Tr t) ⌝ }
+{
+    let a = t.address / 4096 * 4096 + bit(t.nowrite) as u64;
+    Frame {
+        byte0: first(fetch_form(t.address)),
+        tc: h.tc,
+        marks: 0,
+        at: 1,
+        words: t.words,
+        sender: h.sender,
+        byte6: t.tag.0,
+        byte7: 0xFF,
+        dword8: upper(a),
+        dword12: lower(a),
+        body: 0,
+    }
+}
+
+fn access_tag(a: Access) -> u8
+    ensures { λ r. ⌜ r ≡ accessTag a ⌝ }
+{
+    match a {
+        Access::Read(tag) => tag.0,
+        Access::Write => 0,
+    }
+}
+
+fn mem(h: Head, m: MemoryRequest) -> Frame
+    ensures { λ r. ⌜ r ≡ framed h (Mem m) ⌝ }
+{
+    let access = m.access;
+    Frame {
+        byte0: first(access_form(access, m.address)),
+        tc: h.tc,
+        marks: 0,
+        at: bit(m.translated) * 2,
+        words: m.words,
+        sender: h.sender,
+        byte6: access_tag(access),
+        byte7: lanes(m.words),
+        dword8: upper(m.address),
+        dword12: lower(m.address),
+        body: 0,
+    }
+}
+
+fn outcome_words(o: Outcome) -> u16
+    ensures { λ r. ⌜ r ≡ outcomeWords o ⌝ }
+{
+    match o {
+        Outcome::Data(words) => words,
+        Outcome::Status(_) => 0,
+    }
+}
+
+fn outcome_status(o: Outcome) -> u8
+    ensures { λ r. ⌜ r ≡ outcomeStatus o ⌝ }
+{
+    match o {
+        Outcome::Data(_) => 0,
+        Outcome::Status(status) => status,
+    }
+}
+
+fn cpl(h: Head, c: Completion) -> Frame
+    ensures { λ r. ⌜ r ≡ framed h (Cpl c) ⌝ }
+{
+    let outcome = c.outcome;
+    Frame {
+        byte0: first(outcome_form(outcome)),
+        tc: h.tc,
+        marks: 0,
+        at: 0,
+        words: outcome_words(outcome),
+        sender: h.sender,
+        byte6: outcome_status(outcome) % 8 * 32 + (c.count / 256 % 16) as u8,
+        byte7: (c.count % 256) as u8,
+        dword8: c.requester as u32 * 65536 + c.tag.0 as u32 * 256 + c.lower as u32,
+        dword12: 0,
+        body: 0,
+    }
+}
+
+fn inv(h: Head, i: InvalidateRequest) -> Frame
+    ensures { λ r. ⌜ r ≡ framed h (Inv i) ⌝ }
+{
+    Frame {
+        byte0: 0x72,
+        tc: h.tc,
+        marks: 0,
+        at: 0,
+        words: 2,
+        sender: h.sender,
+        byte6: i.itag.0,
+        byte7: 0x01,
+        dword8: i.device as u32 * 65536,
+        dword12: 0,
+        body: i.address / 4096 * 4096 + bit(i.sized) as u64 * 2048,
+    }
+}
+
+fn ic(h: Head, i: InvalidateCompletion) -> Frame
+    ensures { λ r. ⌜ r ≡ framed h (Ic i) ⌝ }
+{
+    Frame {
+        byte0: 0x32,
+        tc: h.tc,
+        marks: 0,
+        at: 0,
+        words: 0,
+        sender: h.sender,
+        byte6: 0,
+        byte7: 0x02,
+        dword8: i.device as u32 * 65536 + i.cc as u32,
+        dword12: i.vector,
+        body: 0,
+    }
+}
+
+fn prq(h: Head, q: PageRequest) -> Frame
+    ensures { λ r. ⌜ r ≡ framed h (Prq q) ⌝ }
+{
+    let a = q.page / 4096 * 4096
+        + q.index.0 as u64 % 512 * 8
+        + bit(q.last) as u64 * 4
+        + bit(q.write) as u64 * 2
+        + bit(q.read) as u64;
+    Frame {
+        byte0: 0x30,
+        tc: h.tc,
+        marks: 0,
+        at: 0,
+        words: 0,
+        sender: h.sender,
+        byte6: 0,
+        byte7: 0x04,
+        dword8: (a / 4294967296) as u32,
+        dword12: (a % 4294967296) as u32,
+        body: 0,
+    }
+}
+
+fn prs(h: Head, s: PrgResponse) -> Frame
+    ensures { λ r. ⌜ r ≡ framed h (Prs s) ⌝ }
+{
+    Frame {
+        byte0: 0x32,
+        tc: h.tc,
+        marks: 0,
+        at: 0,
+        words: 0,
+        sender: h.sender,
+        byte6: 0,
+        byte7: 0x05,
+        dword8: s.device as u32 * 65536 + s.code as u32 % 16 * 4096 + s.index.0 as u32 % 512,
+        dword12: 0,
+        body: 0,
+    }
+}
+
+pub(crate) fn frame_of(h: Head, body: Body) -> Frame
+    ensures { λ r. ⌜ r ≡ framed h body ⌝ }
+{
+    match body {
+        Body::Tr(t) => tr(h, t),
+        Body::Mem(m) => mem(h, m),
+        Body::Cpl(c) => cpl(h, c),
+        Body::Inv(i) => inv(h, i),
+        Body::Ic(i) => ic(h, i),
+        Body::Prq(q) => prq(h, q),
+        Body::Prs(s) => prs(h, s),
+    }
+}

@@ -1,0 +1,90 @@
+// Whether each field lies within its bits, and how long a payload the packet carries.
+use packet::Access;
+use packet::Body;
+use packet::Outcome;
+use packet::dwords;
+ghost use mathlib.Core.Path.{_≡_};
+ghost use mathlib.Core.Bool.{_&&_};
+ghost use Prim.Native.Nat.{_≤_};
+ghost use lib.Dec.{ltb};
+ghost use Rattle.packet.specs.Kinds.{withinOutcome, withinBody, accessLoad, outcomeLoad, loadOf};
+
+fn both(a: bool, b: bool) -> bool
+    ensures { λ r. ⌜ r ≡ (a && b) ⌝ }
+{
+    if a { b } else { false }
+}
+
+fn is_outcome_within(o: Outcome) -> bool
+    ensures { λ r. ⌜ r ≡ withinOutcome o ⌝ }
+{
+    match o {
+        Outcome::Data(words) => words < 1024,
+        Outcome::Status(status) => status < 8,
+    }
+}
+
+fn is_body_within(body: Body) -> bool
+    ensures { λ r. ⌜ r ≡ withinBody body ⌝ }
+{
+    match body {
+        Body::Tr(t) => both(t.words < 1024, t.address % 4096 == 0),
+        Body::Mem(m) => both(m.words < 1024, m.address % 4 == 0),
+        Body::Cpl(c) => {
+            let outcome = c.outcome;
+            both(
+                c.count < 4096,
+                both(c.lower < 128, is_outcome_within(outcome)),
+            )
+        }
+        Body::Inv(i) => both(i.itag.0 < 32, i.address % 4096 == 0),
+        Body::Ic(i) => i.cc < 8,
+        Body::Prq(q) => both(q.page % 4096 == 0, q.index.0 < 512),
+        Body::Prs(s) => both(s.code < 16, s.index.0 < 512),
+    }
+}
+
+pub(crate) fn is_within(tc: u8, body: Body) -> bool
+    ensures { λ r. ⌜ r ≡ (ltb tc 8 && withinBody body) ⌝ }
+{
+    both(tc < 8, is_body_within(body))
+}
+
+fn access_load(a: Access, words: u16) -> usize
+    ensures { λ r. ⌜ (r ≡ accessLoad a words) × (r ≤ 262140) ⌝ }
+{
+    match a {
+        Access::Read(_) => 0,
+        Access::Write => dwords(words) * 4,
+    }
+}
+
+fn outcome_load(o: Outcome) -> usize
+    ensures { λ r. ⌜ (r ≡ outcomeLoad o) × (r ≤ 262140) ⌝ }
+{
+    match o {
+        Outcome::Data(words) => dwords(words) * 4,
+        Outcome::Status(_) => 0,
+    }
+}
+
+// The bytes of payload that the packet must be given.
+pub(crate) fn load(body: Body) -> usize
+    ensures { λ r. ⌜ (r ≡ loadOf body) × (r ≤ 262140) ⌝ }
+{
+    match body {
+        Body::Tr(_) => 0,
+        Body::Mem(m) => {
+            let access = m.access;
+            access_load(access, m.words)
+        }
+        Body::Cpl(c) => {
+            let outcome = c.outcome;
+            outcome_load(outcome)
+        }
+        Body::Inv(_) => 0,
+        Body::Ic(_) => 0,
+        Body::Prq(_) => 0,
+        Body::Prs(_) => 0,
+    }
+}

@@ -1,4 +1,3 @@
-pub mod Cases
 pub mod Numbers
 pub mod Frames
 pub mod Forms

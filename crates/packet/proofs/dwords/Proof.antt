@@ -1,5 +1,5 @@
 use borrow.Author.Needs.{needs}
-use Rattle.packet.specs.Cases.{cases}
+use Rattle.lemmas.specs.Cases.{cases}
 use Rattle.packet.proofs.dwords.Statement.{statement}
 use Rattle.packet.proofs.dwords.Tie as tie
 

@@ -1,4 +1,4 @@
-use Rattle.packet.specs.Cases.{cases}
+use Rattle.lemmas.specs.Cases.{cases}
 use Rattle.packet.proofs.lanes.Statement.{statement}
 use Rattle.packet.proofs.lanes.Tie as tie
 

@@ -1,0 +1,1 @@
+// Laws that the proofs of every crate cite; there is no code here.

@@ -1,0 +1,21 @@
+use Rattle.span.specs.Size.{sizeOf}
+use borrow.Author.Needs.{needs}
+use Rattle.span.proofs.size_of.Statement.{statement}
+use Rattle.span.proofs.size_of.Tie as tie
+
+lowest-zero-requires : tie.Need-lowest-zero-requires
+lowest-zero-requires c κs = search needs
+
+size-at-requires : tie.Need-size-at-requires
+size-at-requires c κs = search needs
+
+returns : tie.Need-returns
+unfolding sizeOf
+returns c = rw (← c .before .lowest-zero .ensures .0, c .before .before .if1 .taken) (c .size-at .ensures)
+
+returns-2 : tie.Need-returns-2
+unfolding sizeOf
+returns-2 c = rw (c .if1 .left)
+
+pub size-of-spec : {M : Type 1} → statement M
+size-of-spec = tie.close (tie.spec lowest-zero-requires size-at-requires returns returns-2)

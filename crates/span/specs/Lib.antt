@@ -1,0 +1,3 @@
+pub mod Size
+pub mod Range
+pub mod Laws

@@ -1,6 +1,8 @@
 -- What closes a `return`: the tests that led there say which case of a definition holds.
 use mathlib.Core.Path.{_≡_, refl, sym, ap, _∙_}
 use mathlib.Core.Bool.{Bool, true, false, cond, not, _&&_}
+use Prim.Native.Nat.{ℕ}
+use native.Mathlib.Omega.{arith}
 use borrow.Author.Tests.{lt-ltb, le-ltb, le-leb, lt-leb, eq-eqb, ne-eqb}
 
 pub take-case : {A : Type 0} (t : Bool) (a b x : A) → t ≡ true → x ≡ a → x ≡ cond t a b
@@ -16,3 +18,12 @@ pub and-stop : (t u : Bool) → t ≡ false → false ≡ (t && u)
 and-stop t u e = sym (ap (λ (s : Bool). s && u) e)
 
 pub ruleset cases = (take-case, skip-case, and-next, and-stop, lt-ltb, le-ltb, le-leb, lt-leb, eq-eqb, ne-eqb)
+
+-- A test holds or it does not.
+pub byCases : {A : Type 0} (t : Bool) → (t ≡ true → A) → (t ≡ false → A) → A
+byCases true f g = f refl
+byCases false f g = g refl
+
+pub and-both : (t u : Bool) → (t && u) ≡ true → (t ≡ true) × (u ≡ true)
+and-both true u e = (refl, e)
+and-both false u e = let z : _≡_ {A = ℕ} 0 1 = cc in absurd (omega arith)

@@ -1,0 +1,33 @@
+// The packet layer, as the Function sees it: what is below stands in `span`, `packet`, `reader` and
+// `writer`, and its laws in specs/.
+pub use packet::Access;
+pub use packet::Body;
+pub use packet::Completion;
+pub use packet::Head;
+pub use packet::ITag;
+pub use packet::InvalidateCompletion;
+pub use packet::InvalidateRequest;
+pub use packet::MemoryRequest;
+pub use packet::Outcome;
+pub use packet::Packet;
+pub use packet::PageRequest;
+pub use packet::PrgIndex;
+pub use packet::PrgResponse;
+pub use packet::Reading;
+pub use packet::Refusal;
+pub use packet::Tag;
+pub use packet::TranslationRequest;
+pub use packet::Writing;
+pub use packet::number;
+pub use reader::payload;
+pub use reader::read_packet;
+pub use span::Range;
+pub use span::Size;
+pub use span::Translation;
+pub use span::meets;
+pub use span::region;
+pub use span::rounded;
+pub use span::size_of;
+pub use span::translation_of;
+pub use span::unit;
+pub use writer::write_packet;

@@ -1,1 +1,7 @@
+pub mod Frames
+pub mod Fields
+pub mod Masks
+pub mod Tidy
+pub mod Refit
+pub mod Trips
 pub mod Settled

@@ -1,0 +1,181 @@
+// The programs that hold the packet layer against stored vectors: one line of output for each line
+// of input.
+use packet::Packet;
+use packet::Reading;
+use packet::Writing;
+use records::put;
+use records::take;
+use span::Size;
+use span::Translation;
+ghost use Prim.Native.Nat.{_≤_};
+ghost use lib.ListN.{length};
+
+pub enum Trial {
+    Reading,
+    Writing,
+    Sizes,
+}
+
+// Where the line that begins at `from` ends: at its line feed, or where the input does.
+fn line_end(input: &[u8], from: usize) -> usize
+    requires { ⌜ from ≤ length (now input) ⌝ }
+    ensures { λ r. ⌜ (from ≤ r) × (r ≤ length (now (input .entry))) ⌝ }
+{
+    let mut at = from;
+    while at < input.len() {
+        if input[at] == b'\n' {
+            return at;
+        }
+        at += 1;
+    }
+    at
+}
+
+// The bytes that a line spells, as many as there is room for; over 600 where a character is no
+// hex digit, the count is odd, or the line is longer.
+fn unhex(line: &[u8], bytes: &mut [u8]) -> usize {
+    if line.len() % 2 == 1 {
+        return 601;
+    }
+    let n = line.len() / 2;
+    let mut i = 0;
+    while i < n {
+        let high = text::hex_value(line[i * 2]);
+        let low = text::hex_value(line[i * 2 + 1]);
+        if 16 <= high {
+            return 601;
+        }
+        if 16 <= low {
+            return 601;
+        }
+        put::byte(bytes, i, high * 16 + low);
+        i += 1;
+    }
+    n
+}
+
+fn put_written(w: Writing, bytes: &[u8], out: &mut [u8], at: usize) -> usize {
+    match w {
+        Writing::Written(n) => put::hexes(out, at, take::front(bytes, n)),
+        Writing::Refused(r) => put::bad(out, at, packet::number(r)),
+    }
+}
+
+fn put_again(p: Packet, payload: &[u8], out: &mut [u8], at: usize) -> usize {
+    let mut space = [0u8; 144];
+    let w = writer::write_packet(p, payload, &mut space);
+    put_written(w, &space, out, at)
+}
+
+// A packet's record, a tab, and the packet written again.
+fn read_one(b: &[u8], out: &mut [u8], at: usize) -> usize {
+    match reader::read_packet(b) {
+        Reading::Read(p) => {
+            let payload = reader::payload(b);
+            let a = records::put_packet(p, (b.len() % 65536) as u16, payload, out, at);
+            let c = put::byte(out, a, b'\t');
+            put_again(p, payload, out, c)
+        }
+        Reading::Refused(r) => put::bad(out, at, packet::number(r)),
+    }
+}
+
+fn write_into(r: &[u8], space: &mut [u8], room: usize, out: &mut [u8], at: usize) -> usize {
+    if room <= space.len() {
+        let w = writer::write_packet(
+            records::take_packet(r),
+            records::take_payload(r),
+            &mut space[..room],
+        );
+        put_written(w, space, out, at)
+    } else {
+        at
+    }
+}
+
+// The packet of a record, written into a buffer as long as the record says.
+fn write_one(r: &[u8], out: &mut [u8], at: usize) -> usize {
+    let mut space = [0u8; 512];
+    write_into(r, &mut space, take::num16(r, 4) as usize, out, at)
+}
+
+fn put_none(out: &mut [u8], at: usize) -> usize {
+    let a = put::byte(out, at, b'N');
+    let b = put::byte(out, a, b'O');
+    let c = put::byte(out, b, b'N');
+    put::byte(out, c, b'E')
+}
+
+// The base, the size's exponent, and N, U, W and R.
+fn put_sized(t: Translation, e: u32, out: &mut [u8], at: usize) -> usize {
+    let a = put::hex64(out, at, t.base);
+    let b = put::byte(out, a, b'\t');
+    let c = put::small(out, b, (e % 100) as u8);
+    let d = put::byte(out, c, b'\t');
+    let f = put::bit(out, d, t.n);
+    let g = put::bit(out, f, t.u);
+    let h = put::bit(out, g, t.w);
+    put::bit(out, h, t.r)
+}
+
+fn size_one(r: &[u8], out: &mut [u8], at: usize) -> usize {
+    let t = span::translation_of(take::num64(r, 0));
+    let size = t.size;
+    match size {
+        Size::Exponent(e) => put_sized(t, e, out, at),
+        Size::NoSize => put_none(out, at),
+    }
+}
+
+fn decoded(trial: Trial, r: &[u8], out: &mut [u8], at: usize) -> usize {
+    match trial {
+        Trial::Reading => read_one(r, out, at),
+        Trial::Writing => write_one(r, out, at),
+        Trial::Sizes => size_one(r, out, at),
+    }
+}
+
+// A packet's line is refused as the listing refuses it; a record's may be longer.
+fn is_too_long(trial: Trial, n: usize) -> bool {
+    match trial {
+        Trial::Reading => 288 < n,
+        Trial::Writing => false,
+        Trial::Sizes => false,
+    }
+}
+
+fn line(trial: Trial, text: &[u8], out: &mut [u8], at: usize) -> usize {
+    if is_too_long(trial, text.len()) {
+        return put::bad(out, at, 1);
+    }
+    let mut space = [0u8; 600];
+    let n = unhex(text, &mut space);
+    if n <= 600 {
+        decoded(trial, take::front(&space, n), out, at)
+    } else {
+        put::bad(out, at, 0)
+    }
+}
+
+// One line of output for each line of input; how far the output goes.
+pub fn run(trial: Trial, input: &[u8], out: &mut [u8]) -> usize {
+    let mut at = 0;
+    let mut from = 0;
+    while from < input.len() {
+        let end = line_end(input, from);
+        let text = line(trial, &input[from..end], out, at);
+        at = put::byte(out, text, b'\n');
+        if end == input.len() {
+            return at;
+        }
+        from = end + 1;
+    }
+    at
+}
+
+// Answers the lines of standard input on standard output, as far as the buffers go.
+pub fn serve(trial: Trial, input: &mut [u8], output: &mut [u8]) {
+    let got = io::read_full(0, input);
+    let made = run(trial, &input[..got], output);
+    io::write_all(1, take::front(output, made));
+}

@@ -1,0 +1,61 @@
+"""What each kind of test file asks, one line in, one line out.
+
+    python3 drivers.py reading|writing|sizes < stdin > stdout
+
+reading: a packet in hex -> its field record and the packet written again.
+writing: a field record -> the packet. sizes: an 8-byte word -> base, log2 of
+the size, N U W R. A refusal is BAD and its number.
+"""
+
+import sys
+
+import listing
+import packets
+import records
+
+
+def hex_of(data):
+    """Upper-case hex."""
+    return data.hex().upper()
+
+
+def reading(line):
+    """One line of the reading test."""
+    got = listing.read_line(line)
+    if isinstance(got, int):
+        return "BAD\t%d" % got
+    fields, packet = got
+    payload = packets.payload_of(fields, packet)
+    again = packets.write(fields, payload, packets.LONGEST)
+    if isinstance(again, int):
+        raise AssertionError("read but not written: %r" % (fields,))
+    record = records.pack(fields, len(packet), payload)
+    return hex_of(record) + "\t" + hex_of(again)
+
+
+def writing(line):
+    """One line of the writing test."""
+    fields, room, payload = records.unpack(bytes.fromhex(line.decode("ascii")))
+    got = packets.write(fields, payload, room)
+    return "BAD\t%d" % got if isinstance(got, int) else hex_of(got)
+
+
+def sizes(line):
+    """One line of the sizes test."""
+    word = int(line.decode("ascii"), 16)
+    got = packets.size(word)
+    if got is None:
+        return "NONE"
+    flags = "".join(str(word >> bit & 1) for bit in (10, 2, 1, 0))
+    return "%016X\t%d\t%s" % (got[0], got[1], flags)
+
+
+DRIVERS = {"reading": reading, "writing": writing, "sizes": sizes}
+
+if __name__ == "__main__":
+    drive = DRIVERS[sys.argv[1]]
+    # Field records may be longer than the listing's longest line.
+    source = (listing.lines(sys.stdin.buffer) if sys.argv[1] == "reading"
+              else (line.rstrip(b"\n") for line in sys.stdin.buffer))
+    for text in source:
+        sys.stdout.buffer.write(drive(text).encode("ascii") + b"\n")

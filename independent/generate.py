@@ -1,0 +1,138 @@
+"""Write the test files: python3 generate.py DIR
+
+Makes listing, reading, writing and sizes, each a .stdin and a .stdout, the
+same bytes each time. Every case made to show a certain number is checked to
+show it; size-codes.tsv is checked row by row. Prints how often each number
+and kind came up and exits with 1 if one that can occur never did.
+"""
+
+import io
+import os
+import sys
+
+sys.dont_write_bytecode = True
+
+import cases_listing
+import cases_reading
+import cases_sizes
+import cases_writing
+import drivers
+import listing
+import records
+from rng import Rng
+
+# No forbidden value can be put into an Invalidate Completion.
+CANNOT = (("IC", "4"),)
+NUMBERS = {"listing": ("ok", "0", "1", "2", "3", "4"),
+           "reading": ("ok", "0", "1", "2", "3", "4"),
+           "writing": ("ok", "12", "4", "17")}
+LARGEST = 400 * 1000
+
+
+def check(want, got, line):
+    """Fail loudly if a case does not show the number it was made to show."""
+    if want is not None and str(want) != got:
+        raise AssertionError("wanted %s, got %s: %r" % (want, got, line))
+
+
+def outcome(answer):
+    """The number of a BAD answer, else ok."""
+    parts = answer.split("\t")
+    return parts[parts.index("BAD") + 1] if "BAD" in parts else "ok"
+
+
+def make(name, cases, answer, counts):
+    """(stdin, stdout) of a test with one answer for each line."""
+    asked, answered, seen = [], [], set()
+    for kind, line, want in cases:
+        if line in seen and name != "listing":
+            continue
+        seen.add(line)
+        text = answer(len(asked) + 1, line)
+        got = outcome(text)
+        check(want, got, line)
+        if got == "ok" and name == "reading":
+            kind = records.NAMES[int(text[:2], 16)]
+        counts[name, kind, got] = counts.get((name, kind, got), 0) + 1
+        asked.append(line + b"\n")
+        answered.append(text.encode("ascii") + b"\n")
+    return b"".join(asked), b"".join(answered)
+
+
+def make_sizes(rng):
+    """(stdin, stdout) of the size test, checked against what is known."""
+    asked, answered = [], []
+    for word, base, log2 in cases_sizes.cases(rng):
+        line = b"%016X" % word
+        text = drivers.sizes(line)
+        flags = "%d%d%d%d" % tuple(word >> bit & 1 for bit in (10, 2, 1, 0))
+        want = ("NONE" if base is None
+                else "%016X\t%d\t%s" % (base, log2, flags))
+        check(want, text, line)
+        asked.append(line + b"\n")
+        answered.append(text.encode("ascii") + b"\n")
+    return b"".join(asked), b"".join(answered)
+
+
+def show(counts, totals):
+    """Print the table; the list of what is missing."""
+    missing = []
+    for name, numbers in NUMBERS.items():
+        print("%-10s%s" % (name, "".join("%7s" % n for n in numbers)))
+        for kind in records.NAMES:
+            cells = []
+            for number in numbers:
+                seen = counts.get((name, kind, number), 0)
+                possible = (kind, number) not in CANNOT
+                if possible and not seen:
+                    missing.append((name, kind, number))
+                cells.append(str(seen) if seen or possible else "-")
+            print("  %-8s%s" % (kind, "".join("%7s" % c for c in cells)))
+    for name, (lines, asked, answered) in totals.items():
+        print("%-10s%7d lines, %d bytes in, %d bytes out"
+              % (name, lines, asked, answered))
+    return missing
+
+
+def main(directory):
+    """Write all files; the exit status."""
+    counts, files = {}, {}
+    files["listing"] = make("listing", cases_listing.cases(Rng(1)),
+                            listing.row, counts)
+    # The last line of the listing's input has no line feed.
+    files["listing"] = files["listing"][0][:-1], files["listing"][1]
+    files["reading"] = make("reading", cases_reading.cases(Rng(2)),
+                            lambda _, line: drivers.reading(line), counts)
+    files["writing"] = make("writing", cases_writing.cases(Rng(3)),
+                            lambda _, line: drivers.writing(line), counts)
+    files["sizes"] = make_sizes(Rng(4))
+
+    # The stream form of the listing must say the same, in blocks of any size.
+    for block in (1, 7, 4096):
+        got = b"".join(
+            listing.row(n, line).encode("ascii") + b"\n" for n, line in
+            enumerate(listing.lines(io.BytesIO(files["listing"][0]), block),
+                      1))
+        if got != files["listing"][1]:
+            raise AssertionError("listing depends on how it is read")
+
+    os.makedirs(directory, exist_ok=True)
+    totals = {}
+    for name, (asked, answered) in files.items():
+        for data, suffix in ((asked, "stdin"), (answered, "stdout")):
+            if len(data) > LARGEST:
+                raise AssertionError("%s.%s is too large" % (name, suffix))
+            with open(os.path.join(directory, name + "." + suffix),
+                      "wb") as out:
+                out.write(data)
+        totals[name] = answered.count(b"\n"), len(asked), len(answered)
+    missing = show(counts, totals)
+    for name, kind, number in missing:
+        print("never seen: %s, %s, %s" % (name, kind, number))
+    return 1 if missing else 0
+
+
+if __name__ == "__main__":
+    if len(sys.argv) != 2:
+        sys.exit("usage: generate.py DIR")
+    sys.exit(main(sys.argv[1]))

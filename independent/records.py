@@ -1,0 +1,54 @@
+"""Field records: a packet's fields as a run of bytes, high byte first.
+
+The form of the test files: kind code, TC, sender, a 16-bit length (of the
+output buffer to write into, or of the packet that was read), then the fields
+of the kind in the order below with their widths in bytes, then payload.
+"""
+
+import packets
+
+# Kind code -> class and (field, width) in order.
+KINDS = tuple((cls, tuple((part.rstrip("1248"), int(part[-1]))
+                          for part in text.split()))
+              for cls, text in (
+    (packets.Tr, "tag1 length2 address8 no_write1"),
+    (packets.MemRead, "tag1 length2 address8 translated1"),
+    (packets.MemWrite, "length2 address8 translated1"),
+    (packets.Cpl, "status1 byte_count2 requester2 tag1 lower1"),
+    (packets.CplData, "length2 byte_count2 requester2 tag1 lower1"),
+    (packets.Inv, "itag1 device2 address8 s1"),
+    (packets.Ic, "device2 cc1 vector4"),
+    (packets.Prq, "address8 index2 l1 w1 r1"),
+    (packets.Prs, "device2 code1 index2"),
+))
+NAMES = ("TR", "MEM read", "MEM write", "CPL", "CPL data",
+         "INV", "IC", "PRQ", "PRS")
+
+
+def code_of(fields):
+    """The kind code, 0 to 8."""
+    return [cls for cls, _ in KINDS].index(type(fields))
+
+
+def pack(fields, length, payload):
+    """The record of these fields."""
+    code = code_of(fields)
+    out = bytes([code, fields.tc]) + fields.sender.to_bytes(2, "big")
+    out += length.to_bytes(2, "big")
+    for name, width in KINDS[code][1]:
+        out += getattr(fields, name).to_bytes(width, "big")
+    return out + payload
+
+
+def unpack(record):
+    """(fields, length, payload) of a record."""
+    cls, layout = KINDS[record[0]]
+    values = {"tc": record[1], "sender": int.from_bytes(record[2:4], "big")}
+    length = int.from_bytes(record[4:6], "big")
+    at = 6
+    for name, width in layout:
+        if at + width > len(record):
+            raise ValueError("record ends inside its fields")
+        values[name] = int.from_bytes(record[at:at + width], "big")
+        at += width
+    return cls(**values), length, record[at:]

@@ -1,19 +1,19 @@
-// Reading a packet. The order of the refusals stands here; the kinds are in `forms` and `fields`.
+// Reading a packet. The order of the refusals stands here and in `order`; the kinds are in `forms`
+// and `fields`.
 mod fields;
 mod forms;
 mod nums;
+mod order;
 
 use packet::Choice;
-use packet::Form;
 use packet::Frame;
-use packet::Packet;
 use packet::Reading;
 use packet::Refusal;
 ghost use mathlib.Core.Path.{_≡_};
 ghost use Prim.Native.Nat.{_≤_};
 ghost use lib.ListN.{length, drop};
 ghost use Rattle.packet.specs.Frames.{frameOf, wordsAt};
-ghost use Rattle.packet.specs.Reading.{paperRead, readForm, reading, payloadIn};
+ghost use Rattle.packet.specs.Reading.{paperRead, reading, payloadIn};
 
 fn words(b: &[u8]) -> u16
     requires { ⌜ 12 ≤ length (now b) ⌝ }
@@ -41,28 +41,6 @@ fn frame(b: &[u8]) -> Frame
     }
 }
 
-// n is the packet's length.
-fn read_form(m: Form, f: Frame, n: usize) -> Reading
-    ensures { λ r. ⌜ paperRead r ≡ readForm m f n ⌝ }
-{
-    if n != forms::length_of(m, f.words) {
-        return Reading::Refused(Refusal::Length);
-    }
-    if f.marks != 0 {
-        return Reading::Refused(Refusal::Marked);
-    }
-    if forms::is_shaped(m, f) {
-        let body = fields::fields(m, f);
-        if packet::is_allowed(f.tc, body) {
-            return Reading::Read(Packet {
-                head: fields::head(f),
-                body,
-            });
-        }
-    }
-    Reading::Refused(Refusal::Forbidden)
-}
-
 pub fn read_packet(b: &[u8]) -> Reading
     ensures { λ r. ⌜ paperRead r ≡ reading (now (b .entry)) ⌝ }
 {
@@ -74,7 +52,7 @@ pub fn read_packet(b: &[u8]) -> Reading
     }
     let f = frame(b);
     match forms::choice(f.byte0, f.byte7) {
-        Choice::Listed(m) => read_form(m, f, b.len()),
+        Choice::Listed(m) => order::read_form(m, f, b.len()),
         Choice::Unlisted => Reading::Refused(Refusal::Kind),
     }
 }

@@ -1,0 +1,73 @@
+-- The examples of document 01 that are to be shown of the definitions: one list, under one statement.
+use mathlib.Core.Path.{_≡_, refl}
+use mathlib.Core.Bool.{true, false}
+use mathlib.Core.List.{List, [], _∷_, _++_}
+use Prim.Native.Nat.{ℕ}
+use Rattle.packet.specs.declared.Packet.{Packet}
+use Rattle.packet.specs.declared.Body.the-variants.{Tr, Inv, Ic, Prq}
+use Rattle.packet.specs.Numbers.{Said, gives, number}
+use Rattle.packet.specs.Frames.{frameOf, four}
+use Rattle.packet.specs.Forms.{choose}
+use Rattle.packet.specs.Kinds.{bodyIn, shaped, allowedBody, withinBody, loadOf, formOf, framed}
+use Rattle.packet.specs.Reading.{readForm, reading}
+use Rattle.packet.specs.Writing.{bytesOf, writing}
+use Rattle.span.specs.declared.Translation.{Translation}
+use Rattle.span.specs.declared.Size.{Size}
+use Rattle.span.specs.declared.Size.the-variants.{Exponent, NoSize}
+use Rattle.span.specs.Range.{regionOf}
+use Rattle.span.specs.Size.{lowestZero, sizeOf, translationOf}
+
+-- an example says that two things are equal
+record Example : Type 1 where
+  Thing : Type 0
+  left : Thing
+  right : Thing
+
+infix 80 _is_
+abbrev _is_ : {A : Type 0} → A → A → Example
+x is y = record { Thing = _; left = x; right = y }
+
+-- all of them hold
+abbrev Hold : List Example → Type 0
+Hold [] = Unit {0}
+Hold (e ∷ es) = (e .left ≡ e .right) × Hold es
+
+-- a region of 2 ^ e bytes at a base, none of N, U, W and R set
+abbrev plain : ℕ → Size → Translation
+plain base size = record { base = base; size = size; n = false; u = false; w = false; r = false }
+
+-- an Invalidate Request with this body, ITag 3, from 0200h to 0100h
+abbrev invalidate : ℕ → ℕ → List ℕ
+invalidate high low = four 0x7200_0002 ++ four 0x0200_0301 ++ four 0x0100_0000 ++ four 0 ++ four high ++ four low
+
+abbrev invalidation : ℕ → Packet
+invalidation address = record { head = record { tc = 0; sender = 0x0200 }; body = Inv (record { itag = record { 0 = 3 }; device = 0x0100; address = address; sized = true }) }
+
+abbrev pageRequest : Packet
+pageRequest =
+    record {
+      head = record { tc = 0; sender = 0x0100 };
+      body = Prq (record { page = 0x203000; index = record { 0 = 3 }; last = true; write = false; read = true });
+    }
+
+abbrev examples : List Example
+examples =
+    -- 1: 8192 bytes at 0; 16384 at 0
+    translationOf 0x0800 is plain 0 (Exponent 13)
+    ∷ translationOf 0x1800 is plain 0 (Exponent 14)
+    -- 2: 2 ^ 64 bytes; no size, which is 4 in a request
+    ∷ translationOf 0x7FFF_FFFF_FFFF_F800 is plain 0 (Exponent 64)
+    ∷ reading (invalidate 0x7FFF_FFFF 0xFFFF_F800) is gives (invalidation 0x7FFF_FFFF_FFFF_F000)
+    ∷ translationOf 0xFFFF_FFFF_FFFF_F800 is plain 0 NoSize
+    ∷ reading (invalidate 0xFFFF_FFFF 0xFFFF_F800) is number 4
+    -- 6: lines 1 and 2 of the listing
+    ∷ reading (four 0x0000_0402 ++ four 0x0100_05FF ++ four 0x0020_3000) is gives (record { head = record { tc = 0; sender = 0x0100 }; body = Tr (record { tag = record { 0 = 5 }; words = 2; address = 0x203000; nowrite = false }) })
+    ∷ reading (four 0x3200_0000 ++ four 0x0100_0002 ++ four 0x0008_0001 ++ four 0x8000_0001) is gives (record { head = record { tc = 0; sender = 0x0100 }; body = Ic (record { device = 0x0008; cc = 1; vector = 0x8000_0001 }) })
+    -- 7: a page request, byte for byte
+    ∷ bytesOf pageRequest [] is (four 0x3000_0000 ++ four 0x0100_0004 ++ four 0 ++ four 0x0020_301D)
+    ∷ writing pageRequest 0 16 is gives 16
+    ∷ []
+
+pub examples-hold : Hold examples
+unfolding lowestZero sizeOf translationOf regionOf frameOf choose bodyIn shaped allowedBody withinBody loadOf formOf framed readForm reading bytesOf writing
+examples-hold = (refl, (refl, (refl, (refl, (refl, (refl, (refl, (refl, (refl, (refl, tt))))))))))

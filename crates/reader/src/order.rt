@@ -1,0 +1,34 @@
+// The refusals of a packet whose form is known, in their order.
+use crate::fields;
+use crate::forms;
+use packet::Form;
+use packet::Frame;
+use packet::Packet;
+use packet::Reading;
+use packet::Refusal;
+ghost use mathlib.Core.Path.{_≡_};
+ghost use Rattle.packet.specs.Reading.{paperRead, readForm};
+
+// n is the packet's length.
+pub(crate) fn read_form(m: Form, f: Frame, n: usize) -> Reading
+    ensures { λ r. ⌜ paperRead r ≡ readForm m f n ⌝ }
+{
+    let expected = forms::length_of(m, f.words);
+    let marks = f.marks;
+    if n != expected {
+        return Reading::Refused(Refusal::Length);
+    }
+    if marks != 0 {
+        return Reading::Refused(Refusal::Marked);
+    }
+    if forms::is_shaped(m, f) {
+        let body = fields::fields(m, f);
+        if packet::is_allowed(f.tc, body) {
+            return Reading::Read(Packet {
+                head: fields::head(f),
+                body,
+            });
+        }
+    }
+    Reading::Refused(Refusal::Forbidden)
+}

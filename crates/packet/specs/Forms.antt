@@ -81,6 +81,6 @@ fixedOf InvCpl = 16
 fixedOf PageReq = 16
 fixedOf PrgResp = 16
 
--- byte 7 of a MEM packet
-abbrev pub lanesOf : ℕ → ℕ
-lanesOf w = cond (eqb w 1) 0x0F 0xFF
+-- byte 7 of a MEM packet, its byte enables
+abbrev pub enablesOf : ℕ → ℕ
+enablesOf w = cond (eqb w 1) 0x0F 0xFF

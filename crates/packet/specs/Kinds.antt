@@ -13,7 +13,7 @@ use Rattle.packet.specs.declared.Outcome.the-variants.{Data, Status}
 use Rattle.packet.specs.declared.Body.{Body}
 use Rattle.packet.specs.declared.Body.the-variants.{Tr, Mem, Cpl, Inv, Ic, Prq, Prs}
 use Rattle.packet.specs.declared.Packet.{Packet}
-use Rattle.packet.specs.Forms.{firstOf, dwordsOf, lanesOf}
+use Rattle.packet.specs.Forms.{firstOf, dwordsOf, enablesOf}
 
 -- ---- the fields of a frame
 
@@ -109,7 +109,7 @@ packetIn m f = record { head = headIn f; body = bodyIn m f }
 
 -- MEM: AT 00 or 10, and byte 7 as its Length asks
 abbrev pub shapedMem : Frame → Bool
-shapedMem f = eqb (f .at % 2) 0 && eqb (f .byte7) (lanesOf (f .words))
+shapedMem f = eqb (f .at % 2) 0 && eqb (f .byte7) (enablesOf (f .words))
 
 abbrev pub shapedFetch : Frame → Bool
 shapedFetch f = cond (eqb (f .at) 1) (eqb (f .byte7) 0xFF) (shapedMem f)
@@ -147,7 +147,8 @@ abbrev pub allowedOutcome : Outcome → Bool
 allowedOutcome (Data w) = shortEnough w
 allowedOutcome (Status s) = not (eqb s 2)
 
--- Length of a TR even, not 0 and at most 32, of a MEM or a completion with data at most 32; status 010; TC of PRQ and PRS 0
+-- Forbidden are: Length of a TR odd, 0 or above 32; Length of a MEM or a completion with data above 32; status 010; a body with no size; TC of
+-- a PRQ or a PRS not 0.
 unfoldable pub allowedBody : ℕ → Body → Bool
 allowedBody tc (Tr t) = evenAndShort (t .words)
 allowedBody tc (Mem m) = shortEnough (m .words)
@@ -197,7 +198,7 @@ loadOf (Ic i) = 0
 loadOf (Prq q) = 0
 loadOf (Prs s) = 0
 
--- ---- the form and the frame of a packet
+-- ---- the form and the frame of a packet; the remainders change nothing in a packet whose fields are within their bits
 
 -- a 64-bit form only where the address needs it
 abbrev pub wide : ℕ → Bool
@@ -268,7 +269,7 @@ framed h (Mem m) =
       words = m .words;
       sender = h .sender;
       byte6 = accessTag (m .access);
-      byte7 = lanesOf (m .words);
+      byte7 = enablesOf (m .words);
       dword8 = upperOf (m .address);
       dword12 = lowerOf (m .address);
       body = 0;

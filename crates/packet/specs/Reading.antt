@@ -21,7 +21,7 @@ abbrev pub paperRead : Reading → Said Packet
 paperRead (Read p) = gives p
 paperRead (Refused r) = number (numberOf r)
 
--- b is n bytes long, and f its frame
+-- a packet of n bytes with the frame f
 unfoldable pub readForm : Form → Frame → ℕ → Said Packet
 readForm m f n =
     demand 1 (eqb n (lengthOf m (f .words)))
@@ -43,7 +43,7 @@ reading b =
     (refuse 1 (ltb 144 (length b))
     (readFrame (frameOf b) (length b)))
 
--- the payload: what follows the bytes that hold fields
+-- the payload of a packet that is read: what follows the bytes that hold fields
 abbrev pub loadIn : Choice → List ℕ → List ℕ
 loadIn (Listed m) b = drop (fixedOf m) b
 loadIn Unlisted b = []

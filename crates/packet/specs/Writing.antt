@@ -17,7 +17,7 @@ abbrev pub paperWritten : Writing → Said ℕ
 paperWritten (Written n) = gives n
 paperWritten (Refused r) = number (numberOf r)
 
--- the bytes of a packet with its payload, which the fields that stand before it are part of
+-- the bytes of a packet: its fields, and then its payload
 unfoldable pub bytesOf : Packet → List ℕ → List ℕ
 bytesOf p payload = take (fixedOf (formOf (p .body))) (spelled (framed (p .head) (p .body))) ++ payload
 

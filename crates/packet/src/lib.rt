@@ -3,7 +3,7 @@
 ghost use mathlib.Core.Path.{_≡_};
 ghost use Prim.Native.Nat.{_≤_};
 ghost use Rattle.packet.specs.Numbers.{numberOf};
-ghost use Rattle.packet.specs.Forms.{dwordsOf, lanesOf, fixedOf};
+ghost use Rattle.packet.specs.Forms.{dwordsOf, enablesOf, fixedOf};
 ghost use Rattle.packet.specs.Kinds.{shortEnough, evenAndShort, hasSize, allowedOutcome, allowedBody};
 
 // The number of an open request.
@@ -36,12 +36,13 @@ pub enum Refusal {
     Room,
 }
 
-// What every kind has.
+// What every kind has: Traffic Class and sender's ID.
 pub struct Head {
     pub tc: u8,
     pub sender: u16,
 }
 
+// Here and below `words` is Length as its field has it: a count of DWORDs, in which 0 means 1024.
 pub struct TranslationRequest {
     pub tag: Tag,
     pub words: u16,
@@ -63,7 +64,7 @@ pub struct MemoryRequest {
     pub translated: bool,
 }
 
-// Data of so many DWORDs, with status 000; or a status and no data.
+// Data, with Length as its field has it and status 000; or a status and no data.
 pub enum Outcome {
     Data(u16),
     Status(u8),
@@ -141,7 +142,7 @@ pub enum Choice {
 }
 
 // A header taken apart, with the body of an Invalidate Request: each field as it stands in the
-// bytes, named by its place where no one name fits all kinds.
+// bytes, named by its place where no one name fits all kinds. `marks` is TD and EP.
 pub struct Frame {
     pub byte0: u8,
     pub tc: u8,
@@ -200,9 +201,9 @@ pub fn dwords(words: u16) -> usize
     if words == 0 { 1024 } else { words as usize }
 }
 
-// Byte 7 of a MEM packet of this Length.
-pub fn lanes(words: u16) -> u8
-    ensures { λ r. ⌜ r ≡ lanesOf words ⌝ }
+// Byte 7 of a MEM packet of this Length: its byte enables.
+pub fn enables(words: u16) -> u8
+    ensures { λ r. ⌜ r ≡ enablesOf words ⌝ }
 {
     if words == 1 { 0x0F } else { 0xFF }
 }

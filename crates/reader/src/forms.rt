@@ -3,7 +3,7 @@ use packet::Choice;
 use packet::Form;
 use packet::Frame;
 use packet::dwords;
-use packet::lanes;
+use packet::enables;
 ghost use mathlib.Core.Path.{_≡_};
 ghost use Prim.Native.Nat.{_≤_};
 ghost use Rattle.packet.specs.Forms.{choose, lengthOf};
@@ -58,7 +58,7 @@ fn is_shaped_mem(f: Frame) -> bool
     ensures { λ r. ⌜ r ≡ shapedMem f ⌝ }
 {
     if f.at % 2 == 0 {
-        f.byte7 == lanes(f.words)
+        f.byte7 == enables(f.words)
     } else {
         false
     }

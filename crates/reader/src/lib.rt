@@ -63,7 +63,7 @@ fn part_from(b: &[u8], n: usize) -> &[u8]
     if n <= b.len() { &b[n..] } else { &b[..0] }
 }
 
-// The payload of a packet, as a part of it.
+// The payload of a packet that reads, as a part of it.
 pub fn payload(b: &[u8]) -> &[u8]
     ensures { λ r. ⌜ now r ≡ payloadIn (now (b .entry)) ⌝ }
 {

@@ -14,7 +14,7 @@ use Rattle.lemmas.specs.Cases.{byCases, and-both}
 use Rattle.span.specs.declared.Range.{Range}
 use Rattle.span.specs.declared.Size.{Size}
 use Rattle.span.specs.declared.Size.the-variants.{Exponent, NoSize}
-use Rattle.span.specs.Size.{bit, lowestZero, sizeAt, sizeOf, baseOf}
+use Rattle.span.specs.Size.{bit, lowestZero, sizeAt, sizeOf, bytesIn, bytesCoded, baseOf}
 use Rattle.span.specs.Range.{regionIn, regionOf, roundedOf, meetsOf}
 
 -- A search that stands at bit b: all below it are ones.
@@ -32,6 +32,12 @@ zero-end b x h = let s : 64 - b ≡ 0 = omega arith in rw s
 
 -- ---- sizes
 
+-- an exponent stands for as many bytes as the code says
+pub size-in-bytes : (a : ℕ) (s : Bool) → bytesIn (sizeOf a s) ≡ bytesCoded a s
+unfolding sizeOf bytesCoded
+size-in-bytes a false = refl
+size-in-bytes a true = byCases (ltb (lowestZero 52 12 a) 64) (λ t. rw t) (λ t. rw t)
+
 -- how many ones a number ends in, k at most
 unfoldable pub trailing : ℕ → ℕ → ℕ
 trailing zero y = 0
@@ -48,6 +54,13 @@ lowest-trailing (suc k) b x =
 
 halves : (a b : ℕ) → 0 < b → ((a * 2 + (b * 2 - 1)) % 2 ≡ 1) × ((a * 2 + (b * 2 - 1)) / 2 ≡ a + (b - 1))
 halves a b h = omega arith
+
+-- the bits below the address say nothing of the size
+pub size-of-page : (a : ℕ) (s : Bool) → sizeOf (a / 4096 * 4096) s ≡ sizeOf a s
+unfolding sizeOf
+size-of-page a s =
+    let e : a / 4096 * 4096 / 2 ^ 12 ≡ a / 2 ^ 12 = omega arith in
+    rw (lowest-trailing 52 12 (a / 4096 * 4096), lowest-trailing 52 12 a, e)
 
 -- n ones below a zero
 pub trailing-ones : (k n q : ℕ) → n < k → trailing k (q * 2 ^ suc n + (2 ^ n - 1)) ≡ n

@@ -11,9 +11,9 @@ regionIn a e = record { first = a / 2 ^ e * 2 ^ e; last = a / 2 ^ e * 2 ^ e + (2
 unfoldable pub regionOf : ℕ → ℕ → Range
 regionOf a e = regionIn a (min e 64)
 
--- the unit of an STU is 4096 × 2 ^ STU bytes
-abbrev pub unitOf : ℕ → ℕ
-unitOf stu = 12 + stu % 32
+-- the unit of an STU is 4096 × 2 ^ STU bytes; here its exponent, whatever a byte that should hold an STU holds
+abbrev pub unitExponent : ℕ → ℕ
+unitExponent stu = 12 + stu % 32
 
 -- a region below the unit is rounded up to it
 unfoldable pub roundedOf : ℕ → ℕ → ℕ → Range

@@ -2,8 +2,8 @@
 // so that 2^64 never has to fit.
 ghost use mathlib.Core.Path.{_≡_};
 ghost use Prim.Native.Nat.{_/_, _*_, _^_, _≤_, max, min};
-ghost use Rattle.span.specs.Size.{lowestZero, sizeAt, sizeOf, baseOf, translationOf};
-ghost use Rattle.span.specs.Range.{unitOf, regionOf, roundedOf, meetsOf};
+ghost use Rattle.span.specs.Size.{lowestZero, sizeAt, sizeOf, bytesIn, bytesCoded, baseOf, translationOf};
+ghost use Rattle.span.specs.Range.{unitExponent, regionOf, roundedOf, meetsOf};
 
 pub enum Size {
     Exponent(u32),
@@ -52,7 +52,8 @@ fn size_at(b: u32) -> Size
 
 // The size that an address and its S bit code.
 pub fn size_of(address: u64, sized: bool) -> Size
-    ensures { λ r. ⌜ r ≡ sizeOf address sized ⌝ }
+    ensures answer { λ r. ⌜ r ≡ sizeOf address sized ⌝ }
+    ensures paper { λ r. ⌜ bytesIn r ≡ bytesCoded address sized ⌝ }
 {
     if sized {
         size_at(lowest_zero(address))
@@ -80,9 +81,9 @@ pub fn region(address: u64, exponent: u32) -> Range
     }
 }
 
-// The smallest unit, as an exponent.
-pub fn unit(stu: u8) -> u32
-    ensures { λ r. ⌜ r ≡ unitOf stu ⌝ }
+// The smallest unit, as an exponent. An STU above 31, which no reset takes, counts modulo 32.
+pub fn unit_exponent(stu: u8) -> u32
+    ensures { λ r. ⌜ r ≡ unitExponent stu ⌝ }
 {
     12 + stu as u32 % 32
 }

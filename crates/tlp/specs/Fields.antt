@@ -22,7 +22,7 @@ use Rattle.packet.specs.declared.PrgResponse.{PrgResponse}
 use Rattle.packet.specs.declared.Body.{Body}
 use Rattle.packet.specs.declared.Body.the-variants.{Tr, Mem, Cpl, Inv, Ic, Prq, Prs}
 use Rattle.packet.specs.declared.Packet.{Packet}
-use Rattle.packet.specs.Forms.{choose, firstOf, fixedOf, lengthOf, lanesOf, dwordsOf}
+use Rattle.packet.specs.Forms.{choose, firstOf, fixedOf, lengthOf, enablesOf, dwordsOf}
 use Rattle.packet.specs.Kinds.{headIn, longIn, fetchIn, memIn, bodyIn, shapedMem, shapedFetch, shaped, shortEnough, allowedOutcome, allowedBody, withinBody, accessLoad, outcomeLoad, loadOf, wide, accessForm, outcomeForm, formOf, bitOf, upperOf, lowerOf, framed}
 use Rattle.lemmas.specs.Cases.{byCases, and-both}
 use Rattle.tlp.specs.Frames.{Sound, halves}
@@ -57,8 +57,8 @@ bit-le : (b : Bool) → bitOf b ≤ 1
 bit-le true = lit≤ tt
 bit-le false = lit≤ tt
 
-lanes-lt : (w : ℕ) → lanesOf w < 256
-lanes-lt w = byCases (eqb w 1) (λ e. rw e (lit≤ tt)) (λ e. rw e (lit≤ tt))
+enables-lt : (w : ℕ) → enablesOf w < 256
+enables-lt w = byCases (eqb w 1) (λ e. rw e (lit≤ tt)) (λ e. rw e (lit≤ tt))
 
 -- an address in one DWORD or in two
 module _ (a : ℕ) where
@@ -242,11 +242,11 @@ module _ (h : Head) (htc : h .tc < 8) (hs : h .sender < 65536) where
       let p = and-both (ltb words 1024) (eqb (a % 4) 0) e in
       let x = at-back t in
       record {
-        sound = seat htc hs (fetches (wide a) .first, lit≤ tt, x .3, ltb-true words 1024 (p .0)) (ty .0, lanes-lt words) (upper-lt a (ty .1), lower-lt a, lit≤ tt);
+        sound = seat htc hs (fetches (wide a) .first, lit≤ tt, x .3, ltb-true words 1024 (p .0)) (ty .0, enables-lt words) (upper-lt a (ty .1), lower-lt a, lit≤ tt);
         marks = refl;
         front = refl;
-        chosen = fetches (wide a) .chosen (lanesOf words);
-        shape = fetches (wide a) .shape _ ∙ rw (x .0, x .1, self (lanesOf words)) (upper-shape a true refl);
+        chosen = fetches (wide a) .chosen (enablesOf words);
+        shape = fetches (wide a) .shape _ ∙ rw (x .0, x .1, self (enablesOf words)) (upper-shape a true refl);
         back = fetches (wide a) .body _ ∙ rw (x .0, x .2, address-back a, mem-word a (eqb-true (a % 4) 0 (p .1)));
         long = fetches (wide a) .long words;
       }
@@ -254,11 +254,11 @@ module _ (h : Head) (htc : h .tc < 8) (hs : h .sender < 65536) where
       let p = and-both (ltb words 1024) (eqb (a % 4) 0) e in
       let x = at-back t in
       record {
-        sound = seat htc hs (stores (wide a) .first, lit≤ tt, x .3, ltb-true words 1024 (p .0)) (lit≤ tt, lanes-lt words) (upper-lt a (ty .1), lower-lt a, lit≤ tt);
+        sound = seat htc hs (stores (wide a) .first, lit≤ tt, x .3, ltb-true words 1024 (p .0)) (lit≤ tt, enables-lt words) (upper-lt a (ty .1), lower-lt a, lit≤ tt);
         marks = refl;
         front = refl;
-        chosen = stores (wide a) .chosen (lanesOf words);
-        shape = stores (wide a) .shape _ ∙ rw (x .1, self (lanesOf words)) (upper-shape a true refl);
+        chosen = stores (wide a) .chosen (enablesOf words);
+        shape = stores (wide a) .shape _ ∙ rw (x .1, self (enablesOf words)) (upper-shape a true refl);
         back = stores (wide a) .body _ ∙ rw (x .2, address-back a, mem-word a (eqb-true (a % 4) 0 (p .1)));
         long = stores (wide a) .long words;
       }

@@ -4,4 +4,5 @@ pub mod Masks
 pub mod Tidy
 pub mod Refit
 pub mod Trips
+pub mod Laws
 pub mod Settled

@@ -14,7 +14,7 @@ use Rattle.packet.specs.declared.Outcome.{Outcome}
 use Rattle.packet.specs.declared.Outcome.the-variants.{Data, Status}
 use Rattle.packet.specs.declared.Choice.{Choice}
 use Rattle.packet.specs.declared.Choice.the-variants.{Listed, Unlisted}
-use Rattle.packet.specs.Forms.{choose, firstOf, fixedOf, lengthOf, lanesOf}
+use Rattle.packet.specs.Forms.{choose, firstOf, fixedOf, lengthOf, enablesOf}
 use Rattle.packet.specs.Kinds.{headIn, longIn, trIn, memIn, cplIn, bodyIn, accessLoad, accessForm, accessTag, outcomeForm, outcomeWords, outcomeStatus, outcomeLoad, withinOutcome, shapedMem, shapedFetch, shaped, withinBody, loadOf, wide, formOf, bitOf, upperOf, lowerOf, framed}
 use Rattle.lemmas.specs.Cases.{byCases, and-both}
 use Rattle.tlp.specs.Frames.{Sound, halves-is}
@@ -176,7 +176,7 @@ module _ (f : Frame) (s : Sound f) (z : f .marks ≡ 0) where
       accessForm access (a / 4 * 4) ≡ m →
       tidy m (eqb (f .at) 1) f ≡ keeping f (f .at) (f .words) (accessTag access) (upperOf (a / 4 * 4)) (lowerOf (a / 4 * 4)) 0 →
       fixedOf m + accessLoad access (f .words) ≡ lengthOf m (f .words) →
-      f .byte0 ≡ firstOf m → f .at % 2 ≡ 0 → f .byte7 ≡ lanesOf (f .words) → Refit m f
+      f .byte0 ≡ firstOf m → f .at % 2 ≡ 0 → f .byte7 ≡ enablesOf (f .words) → Refit m f
   unfolding formOf framed withinBody loadOf
   mem m access a body form clean load b0 e b7 =
       record {
@@ -266,13 +266,13 @@ module _ (f : Frame) (s : Sound f) (z : f .marks ≡ 0) where
       }
 
   -- the tests of a MEM
-  mem-shape : shapedMem f ≡ true → (f .at % 2 ≡ 0) × (f .byte7 ≡ lanesOf (f .words))
+  mem-shape : shapedMem f ≡ true → (f .at % 2 ≡ 0) × (f .byte7 ≡ enablesOf (f .words))
   mem-shape e =
-      let p = and-both (eqb (f .at % 2) 0) (eqb (f .byte7) (lanesOf (f .words))) e in
-      (eqb-true (f .at % 2) 0 (p .0), eqb-true (f .byte7) (lanesOf (f .words)) (p .1))
+      let p = and-both (eqb (f .at % 2) 0) (eqb (f .byte7) (enablesOf (f .words))) e in
+      (eqb-true (f .at % 2) 0 (p .0), eqb-true (f .byte7) (enablesOf (f .words)) (p .1))
 
   -- 00h and 20h are a TR or a MEM read
-  fetched : {A : Type 0} → shapedFetch f ≡ true → (f .at ≡ 1 → f .byte7 ≡ 0xFF → A) → (eqb (f .at) 1 ≡ false → f .at % 2 ≡ 0 → f .byte7 ≡ lanesOf (f .words) → A) → A
+  fetched : {A : Type 0} → shapedFetch f ≡ true → (f .at ≡ 1 → f .byte7 ≡ 0xFF → A) → (eqb (f .at) 1 ≡ false → f .at % 2 ≡ 0 → f .byte7 ≡ enablesOf (f .words) → A) → A
   fetched e t m =
       byCases (eqb (f .at) 1)
       (λ p. t (eqb-true (f .at) 1 p) (eqb-true (f .byte7) 0xFF (rw p at e)))

@@ -20,7 +20,7 @@ use Rattle.span.specs.declared.Size.{Size}
 use Rattle.span.specs.declared.Range.{Range}
 use Rattle.span.specs.declared.Translation.{Translation}
 use Rattle.span.specs.Size.{sizeOf, translationOf}
-use Rattle.span.specs.Range.{unitOf, regionOf, roundedOf, meetsOf}
+use Rattle.span.specs.Range.{unitExponent, regionOf, roundedOf, meetsOf}
 
 -- the refusal of a number
 refusalOf : ℕ → Refusal
@@ -110,8 +110,8 @@ size-of-settled a s x y p q = p ∙ sym q
 pub translation-of-settled : (w : ℕ) (x y : Translation) → x ≡ translationOf w → y ≡ translationOf w → x ≡ y
 translation-of-settled w x y p q = p ∙ sym q
 
-pub unit-settled : (stu x y : ℕ) → x ≡ unitOf stu → y ≡ unitOf stu → x ≡ y
-unit-settled stu x y p q = p ∙ sym q
+pub unit-exponent-settled : (stu x y : ℕ) → x ≡ unitExponent stu → y ≡ unitExponent stu → x ≡ y
+unit-exponent-settled stu x y p q = p ∙ sym q
 
 pub region-settled : (a e : ℕ) (x y : Range) → x ≡ regionOf a e → y ≡ regionOf a e → x ≡ y
 region-settled a e x y p q = p ∙ sym q

@@ -131,15 +131,15 @@ module _ (b : List ℕ) (h : Bytes b) where
 -- ---- read then write gives the same bytes with ignored bits zero
 
 -- a packet that is read passed each test
-record Taken (b : List ℕ) (p : Packet) : Type 0 where
-  form : Form
-  low : 12 ≤ length b
-  chosen : choose (byte b 0) (byte b 7) ≡ Listed form
-  long : length b ≡ lengthOf form (frameOf b .words)
-  marks : frameOf b .marks ≡ 0
-  shape : shaped form (frameOf b) ≡ true
-  allows : allowed p ≡ true
-  whole : packetIn form (frameOf b) ≡ p
+pub record Taken (b : List ℕ) (p : Packet) : Type 0 where
+  pub form : Form
+  pub low : 12 ≤ length b
+  pub chosen : choose (byte b 0) (byte b 7) ≡ Listed form
+  pub long : length b ≡ lengthOf form (frameOf b .words)
+  pub marks : frameOf b .marks ≡ 0
+  pub shape : shaped form (frameOf b) ≡ true
+  pub allows : allowed p ≡ true
+  pub whole : packetIn form (frameOf b) ≡ p
 
 module _ (b : List ℕ) (p : Packet) (low : 12 ≤ length b) where
   taken-as : (c : Choice) → choose (byte b 0) (byte b 7) ≡ c → readChoice c (frameOf b) (length b) ≡ gives p → Taken b p
@@ -163,7 +163,7 @@ module _ (b : List ℕ) (p : Packet) (low : 12 ≤ length b) where
         whole = same;
       }
 
-taken : (b : List ℕ) (p : Packet) → reading b ≡ gives p → Taken b p
+pub taken : (b : List ℕ) (p : Packet) → reading b ≡ gives p → Taken b p
 unfolding reading frameOf
 taken b p e =
     let p1 = spared (ltb (length b) 12) 1 _ e in
@@ -175,7 +175,7 @@ unfolding frameOf
 marks-is b z = z
 
 module _ (b : List ℕ) (p : Packet) (h : Bytes b) (e : reading b ≡ gives p) where
-  told : Taken b p
+  pub told : Taken b p
   told = taken b p e
 
   refitted : Refit (told .form) (frameOf b)
@@ -184,7 +184,7 @@ module _ (b : List ℕ) (p : Packet) (h : Bytes b) (e : reading b ≡ gives p) w
       let c = rw (told .chosen) at (chosen-by (byte b 0) (byte b 7)) in
       refit (frameOf b) (frame-sound b h) (told .marks) (told .form) (told .shape) (c .0) (c .1)
 
-  payload-is : payloadIn b ≡ drop (fixedOf (told .form)) b
+  pub payload-is : payloadIn b ≡ drop (fixedOf (told .form)) b
   unfolding payloadIn
   payload-is = rw (le-ltb (length b) 12 (told .low), told .chosen)
 

@@ -29,5 +29,5 @@ pub use span::region;
 pub use span::rounded;
 pub use span::size_of;
 pub use span::translation_of;
-pub use span::unit;
+pub use span::unit_exponent;
 pub use writer::write_packet;

@@ -12,7 +12,7 @@ use packet::Outcome;
 use packet::PageRequest;
 use packet::PrgResponse;
 use packet::TranslationRequest;
-use packet::lanes;
+use packet::enables;
 ghost use mathlib.Core.Path.{_≡_};
 ghost use mathlib.Core.Bool.{cond};
 ghost use Prim.Native.Nat.{_≤_};
@@ -162,7 +162,7 @@ fn mem(h: Head, m: MemoryRequest) -> Frame
         words: m.words,
         sender: h.sender,
         byte6: access_tag(access),
-        byte7: lanes(m.words),
+        byte7: enables(m.words),
         dword8: upper(m.address),
         dword12: lower(m.address),
         body: 0,

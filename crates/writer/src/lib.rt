@@ -90,11 +90,14 @@ fn answer(p: Packet, load: usize, room: usize) -> Writing
 {
     let tc = p.head.tc;
     let body = p.body;
-    if limits::is_within(tc, body) {
-        if load != limits::load(body) {
+    let within = limits::is_within(tc, body);
+    let due = limits::load(body);
+    let allowed = packet::is_allowed(tc, body);
+    if within {
+        if load != due {
             return Writing::Refused(Refusal::Argument);
         }
-        if packet::is_allowed(tc, body) {
+        if allowed {
             return fits(fixed(frames::form_of(body)) + load, room);
         }
         return Writing::Refused(Refusal::Forbidden);

@@ -10,12 +10,13 @@ is-within-requires c κs = search needs
 load-requires : tie.Need-load-requires
 load-requires c κs = search needs
 
-returns : tie.Need-returns
-unfolding writing
-returns c = rw (← c .before .before .before .is-within .ensures, ← c .before .load .ensures .0) (search cases depth 14)
-
 is-allowed-requires : tie.Need-is-allowed-requires
 is-allowed-requires c κs = search needs
+
+returns : tie.Need-returns
+unfolding writing
+returns c = let k = c .before .before in
+    rw (← k .before .before .is-within .ensures, ← k .before .load .ensures .0) (search cases depth 14)
 
 form-of-requires : tie.Need-form-of-requires
 form-of-requires c κs = search needs
@@ -31,17 +32,17 @@ fits-requires c κs = search needs
 
 returns-2 : tie.Need-returns-2
 unfolding writing
-returns-2 c = let k = c .before .before .before .before in
-    rw (← k .before .before .before .before .is-within .ensures, ← k .before .before .load .ensures .0, ← k .is-allowed .ensures, ← c .before .before .form-of .ensures, ← c .before .fixed .ensures .0) (search (cases, c .fits2 .ensures) depth 14)
+returns-2 c = let k = c .before .before .before .before .before .before in
+    rw (← k .before .before .is-within .ensures, ← k .before .load .ensures .0, ← k .is-allowed .ensures, ← c .before .before .form-of .ensures, ← c .before .fixed .ensures .0) (search (cases, c .fits2 .ensures) depth 14)
 
 returns-3 : tie.Need-returns-3
 unfolding writing
-returns-3 c = let k = c .before in
-    rw (← k .before .before .before .before .is-within .ensures, ← k .before .before .load .ensures .0, ← k .is-allowed .ensures) (search cases depth 14)
+returns-3 c = let k = c .before .before .before in
+    rw (← k .before .before .is-within .ensures, ← k .before .load .ensures .0, ← k .is-allowed .ensures) (search cases depth 14)
 
 returns-4 : tie.Need-returns-4
 unfolding writing
-returns-4 c = rw (← c .before .is-within .ensures) (search cases depth 14)
+returns-4 c = rw (← c .before .before .before .is-within .ensures) (search cases depth 14)
 
 pub answer-spec : {M : Type 1} → statement M
 answer-spec =
@@ -49,8 +50,8 @@ answer-spec =
     (tie.spec
     is-within-requires
     load-requires
-    returns
     is-allowed-requires
+    returns
     form-of-requires
     fixed-requires
     add-fits

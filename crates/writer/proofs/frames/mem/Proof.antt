@@ -18,8 +18,8 @@ mul-t7 c = search needs
 access-tag-requires : tie.Need-access-tag-requires
 access-tag-requires c κs = search needs
 
-lanes-requires : tie.Need-lanes-requires
-lanes-requires c κs = search needs
+enables-requires : tie.Need-enables-requires
+enables-requires c κs = search needs
 
 upper-requires : tie.Need-upper-requires
 upper-requires c κs = search needs
@@ -29,7 +29,7 @@ lower-requires c κs = search needs
 
 returns : tie.Need-returns
 unfolding framed formOf
-returns c = simp (c .lower .ensures, c .before .upper .ensures, c .before .before .lanes .ensures, c .before .before .before .access-tag .ensures, c .before .before .before .before .bit .ensures .0, c .before .before .before .before .before .first .ensures, c .before .before .before .before .before .before .access-form .ensures)
+returns c = simp (c .lower .ensures, c .before .upper .ensures, c .before .before .enables .ensures, c .before .before .before .access-tag .ensures, c .before .before .before .before .bit .ensures .0, c .before .before .before .before .before .first .ensures, c .before .before .before .before .before .before .access-form .ensures)
 
 pub mem-spec : {M : Type 1} → statement M
 mem-spec =
@@ -40,7 +40,7 @@ mem-spec =
     bit-requires
     mul-t7
     access-tag-requires
-    lanes-requires
+    enables-requires
     upper-requires
     lower-requires
     returns)

@@ -2,7 +2,7 @@
 use mathlib.Core.Path.{_≡_, refl}
 use mathlib.Core.Bool.{true, false}
 use mathlib.Core.List.{List, [], _∷_, _++_}
-use Prim.Native.Nat.{ℕ}
+use Prim.Native.Nat.{ℕ, _^_}
 use Rattle.packet.specs.declared.Packet.{Packet}
 use Rattle.packet.specs.declared.Body.the-variants.{Tr, Inv, Ic, Prq}
 use Rattle.packet.specs.Numbers.{Said, gives, number}
@@ -15,7 +15,7 @@ use Rattle.span.specs.declared.Translation.{Translation}
 use Rattle.span.specs.declared.Size.{Size}
 use Rattle.span.specs.declared.Size.the-variants.{Exponent, NoSize}
 use Rattle.span.specs.Range.{regionOf}
-use Rattle.span.specs.Size.{lowestZero, sizeOf, translationOf}
+use Rattle.span.specs.Size.{lowestZero, sizeOf, bytesCoded, translationOf}
 
 -- an example says that two things are equal
 record Example : Type 1 where
@@ -52,14 +52,19 @@ pageRequest =
 
 abbrev examples : List Example
 examples =
-    -- 1: 8192 bytes at 0; 16384 at 0
-    translationOf 0x0800 is plain 0 (Exponent 13)
+    -- 1: the body of a request, and a translation: 8192 bytes at 0; 16384 at 0
+    reading (invalidate 0 0x0800) is gives (invalidation 0)
+    ∷ bytesCoded 0 true is 8192
+    ∷ translationOf 0x0800 is plain 0 (Exponent 13)
+    ∷ reading (invalidate 0 0x1800) is gives (invalidation 0x1000)
+    ∷ bytesCoded 0x1000 true is 16384
     ∷ translationOf 0x1800 is plain 0 (Exponent 14)
     -- 2: 2 ^ 64 bytes; no size, which is 4 in a request
-    ∷ translationOf 0x7FFF_FFFF_FFFF_F800 is plain 0 (Exponent 64)
     ∷ reading (invalidate 0x7FFF_FFFF 0xFFFF_F800) is gives (invalidation 0x7FFF_FFFF_FFFF_F000)
-    ∷ translationOf 0xFFFF_FFFF_FFFF_F800 is plain 0 NoSize
+    ∷ bytesCoded 0x7FFF_FFFF_FFFF_F000 true is (2 ^ 64)
+    ∷ translationOf 0x7FFF_FFFF_FFFF_F800 is plain 0 (Exponent 64)
     ∷ reading (invalidate 0xFFFF_FFFF 0xFFFF_F800) is number 4
+    ∷ translationOf 0xFFFF_FFFF_FFFF_F800 is plain 0 NoSize
     -- 6: lines 1 and 2 of the listing
     ∷ reading (four 0x0000_0402 ++ four 0x0100_05FF ++ four 0x0020_3000) is gives (record { head = record { tc = 0; sender = 0x0100 }; body = Tr (record { tag = record { 0 = 5 }; words = 2; address = 0x203000; nowrite = false }) })
     ∷ reading (four 0x3200_0000 ++ four 0x0100_0002 ++ four 0x0008_0001 ++ four 0x8000_0001) is gives (record { head = record { tc = 0; sender = 0x0100 }; body = Ic (record { device = 0x0008; cc = 1; vector = 0x8000_0001 }) })
@@ -69,5 +74,5 @@ examples =
     ∷ []
 
 pub examples-hold : Hold examples
-unfolding lowestZero sizeOf translationOf regionOf frameOf choose bodyIn shaped allowedBody withinBody loadOf formOf framed readForm reading bytesOf writing
-examples-hold = (refl, (refl, (refl, (refl, (refl, (refl, (refl, (refl, (refl, (refl, tt))))))))))
+unfolding lowestZero sizeOf bytesCoded translationOf regionOf frameOf choose bodyIn shaped allowedBody withinBody loadOf formOf framed readForm reading bytesOf writing
+examples-hold = (refl, (refl, (refl, (refl, (refl, (refl, (refl, (refl, (refl, (refl, (refl, (refl, (refl, (refl, (refl, tt)))))))))))))))

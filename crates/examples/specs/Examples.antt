@@ -11,6 +11,9 @@ use Rattle.packet.specs.Forms.{choose}
 use Rattle.packet.specs.Kinds.{bodyIn, shaped, allowedBody, withinBody, loadOf, formOf, framed}
 use Rattle.packet.specs.Reading.{readForm, reading}
 use Rattle.packet.specs.Writing.{bytesOf, writing}
+use Rattle.lister.specs.Line.{lineRead, lineText}
+use Rattle.rows.specs.Rows.{outLine}
+use Rattle.text.specs.Digits.{allHex, unhex, decimal, decimalIn}
 use Rattle.span.specs.declared.Translation.{Translation}
 use Rattle.span.specs.declared.Size.{Size}
 use Rattle.span.specs.declared.Size.the-variants.{Exponent, NoSize}
@@ -50,6 +53,22 @@ pageRequest =
       body = Prq (record { page = 0x203000; index = record { 0 = 3 }; last = true; write = false; read = true });
     }
 
+-- 00000402010005FF00203000
+abbrev line1 : List ℕ
+line1 = 48 ∷ 48 ∷ 48 ∷ 48 ∷ 48 ∷ 52 ∷ 48 ∷ 50 ∷ 48 ∷ 49 ∷ 48 ∷ 48 ∷ 48 ∷ 53 ∷ 70 ∷ 70 ∷ 48 ∷ 48 ∷ 50 ∷ 48 ∷ 51 ∷ 48 ∷ 48 ∷ 48 ∷ []
+
+-- 32000000010000020008000180000001
+abbrev line2 : List ℕ
+line2 = 51 ∷ 50 ∷ 48 ∷ 48 ∷ 48 ∷ 48 ∷ 48 ∷ 48 ∷ 48 ∷ 49 ∷ 48 ∷ 48 ∷ 48 ∷ 48 ∷ 48 ∷ 50 ∷ 48 ∷ 48 ∷ 48 ∷ 56 ∷ 48 ∷ 48 ∷ 48 ∷ 49 ∷ 56 ∷ 48 ∷ 48 ∷ 48 ∷ 48 ∷ 48 ∷ 48 ∷ 49 ∷ []
+
+-- 1, TR, 0100, 5
+abbrev shown1 : List ℕ
+shown1 = 49 ∷ 9 ∷ 84 ∷ 82 ∷ 9 ∷ 48 ∷ 49 ∷ 48 ∷ 48 ∷ 9 ∷ 53 ∷ 10 ∷ []
+
+-- 2, IC, 0100, 80000001
+abbrev shown2 : List ℕ
+shown2 = 50 ∷ 9 ∷ 73 ∷ 67 ∷ 9 ∷ 48 ∷ 49 ∷ 48 ∷ 48 ∷ 9 ∷ 56 ∷ 48 ∷ 48 ∷ 48 ∷ 48 ∷ 48 ∷ 48 ∷ 49 ∷ 10 ∷ []
+
 abbrev examples : List Example
 examples =
     -- 1: the body of a request, and a translation: 8192 bytes at 0; 16384 at 0
@@ -68,11 +87,13 @@ examples =
     -- 6: lines 1 and 2 of the listing
     ∷ reading (four 0x0000_0402 ++ four 0x0100_05FF ++ four 0x0020_3000) is gives (record { head = record { tc = 0; sender = 0x0100 }; body = Tr (record { tag = record { 0 = 5 }; words = 2; address = 0x203000; nowrite = false }) })
     ∷ reading (four 0x3200_0000 ++ four 0x0100_0002 ++ four 0x0008_0001 ++ four 0x8000_0001) is gives (record { head = record { tc = 0; sender = 0x0100 }; body = Ic (record { device = 0x0008; cc = 1; vector = 0x8000_0001 }) })
+    ∷ lineText 1 line1 is shown1
+    ∷ lineText 2 line2 is shown2
     -- 7: a page request, byte for byte
     ∷ bytesOf pageRequest [] is (four 0x3000_0000 ++ four 0x0100_0004 ++ four 0 ++ four 0x0020_301D)
     ∷ writing pageRequest 0 16 is gives 16
     ∷ []
 
 pub examples-hold : Hold examples
-unfolding lowestZero sizeOf bytesCoded translationOf regionOf frameOf choose bodyIn shaped allowedBody withinBody loadOf formOf framed readForm reading bytesOf writing
-examples-hold = (refl, (refl, (refl, (refl, (refl, (refl, (refl, (refl, (refl, (refl, (refl, (refl, (refl, (refl, (refl, tt)))))))))))))))
+unfolding lowestZero sizeOf bytesCoded translationOf regionOf frameOf choose bodyIn shaped allowedBody withinBody loadOf formOf framed readForm reading bytesOf writing allHex unhex decimal decimalIn lineRead lineText outLine
+examples-hold = (refl, (refl, (refl, (refl, (refl, (refl, (refl, (refl, (refl, (refl, (refl, (refl, (refl, (refl, (refl, (refl, (refl, tt)))))))))))))))))

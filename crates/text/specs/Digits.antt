@@ -12,6 +12,14 @@ hexValue c =
     (cond (leb 97 c && leb c 102) (c - 87)
     16))
 
+-- the values of n characters from c on, and of all 256
+unfoldable pub valuesFrom : ℕ → ℕ → List ℕ
+valuesFrom zero c = []
+valuesFrom (suc n) c = hexValue c ∷ valuesFrom n (suc c)
+
+unfoldable pub hexValues : List ℕ
+hexValues = valuesFrom 256 0
+
 abbrev pub isHex : ℕ → Bool
 isHex c = ltb (hexValue c) 16
 

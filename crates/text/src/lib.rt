@@ -1,7 +1,9 @@
 // Numbers as text: hex read in either case and written in upper case, decimal with no leading zero.
+mod table;
+
 ghost use mathlib.Core.Path.{_≡_};
 ghost use Prim.Native.Nat.{_<_};
-ghost use Rattle.text.specs.Digits.{hexValue, hexDigit, hex4, hex8};
+ghost use Rattle.text.specs.Digits.{hexValue, hexValues, hexDigit, hex4, hex8};
 ghost use Rattle.text.specs.Numerals.{numeral};
 
 // The value of a hex digit, and 16 of any other character.
@@ -27,6 +29,14 @@ pub fn hex_value(c: u8) -> u8
         b'F' | b'f' => 15,
         _ => 16,
     }
+}
+
+// The values of all characters. To look a value up here is faster than to work it out, if the table
+// is made once for many characters.
+pub fn hex_values() -> [u8; 256]
+    ensures { λ r. ⌜ r ≡ hexValues ⌝ }
+{
+    table::VALUES
 }
 
 fn hex_digit(n: u16) -> u8

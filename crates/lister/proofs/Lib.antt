@@ -1,0 +1,4 @@
+pub mod Hexes
+pub mod Spelled
+pub mod Feeds
+pub mod Holds

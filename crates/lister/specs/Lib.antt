@@ -1,0 +1,6 @@
+pub mod Runs
+pub mod Line
+pub mod Stream
+pub mod Cuts
+pub mod Pieces
+pub mod Settled

@@ -1,0 +1,30 @@
+-- The listing of one line.
+use Prim.Native.Nat.{ℕ, _%_}
+use mathlib.Core.List.{List}
+use lib.ListN.{length}
+use lib.Dec.{ltb, eqb}
+use Rattle.packet.specs.declared.Packet.{Packet}
+use Rattle.packet.specs.Numbers.{Said, gives, number, numberOf, refuse, demand}
+use Rattle.packet.specs.Reading.{reading}
+use Rattle.text.specs.Digits.{allHex, unhex}
+use Rattle.rows.specs.Rows.{outLine}
+use Rattle.lister.specs.declared.Line.{Line}
+use Rattle.lister.specs.declared.Line.the-variants.{Read, Refused, Unreadable}
+
+-- Over 288 characters is number 1, looked at first; then an odd count or a character that is no hex digit is number 0; then the packet is read.
+unfoldable pub lineRead : List ℕ → Said Packet
+lineRead cs =
+    refuse 1 (ltb 288 (length cs))
+    (demand 0 (eqb (length cs % 2) 0)
+    (demand 0 (allHex cs)
+    (reading (unhex cs))))
+
+-- what the paper says of a line
+abbrev pub paperLine : Line → Said Packet
+paperLine (Read p) = gives p
+paperLine (Refused r) = number (numberOf r)
+paperLine Unreadable = number 0
+
+-- the whole output line of line k
+unfoldable pub lineText : ℕ → List ℕ → List ℕ
+lineText k cs = outLine k (lineRead cs)

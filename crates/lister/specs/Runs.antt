@@ -1,0 +1,17 @@
+-- Bytes spelled by the characters at the start of a list.
+use Prim.Native.Nat.{ℕ, _+_, _*_, _≤_, _<_}
+use mathlib.Core.Path.{_≡_}
+use mathlib.Core.Bool.{true, false, _&&_}
+use mathlib.Core.List.{List}
+use lib.ListN.{length, take, getD}
+use Rattle.text.specs.Digits.{isHex, allHex, unhex}
+
+-- The first n pairs of cs spell the first n of bytes, and the next pair spells none: it is the 145th, or there is none, or it has a character that is no digit.
+abbrev pub HexRun : List ℕ → ℕ → List ℕ → Type 0
+HexRun cs n bytes =
+    (n ≤ 144)
+    × (length bytes ≡ 144)
+    × (n * 2 ≤ length cs)
+    × (allHex (take (n * 2) cs) ≡ true)
+    × (take n bytes ≡ unhex (take (n * 2) cs))
+    × (n < 144 → n * 2 + 1 < length cs → (isHex (getD cs (n * 2) 0) && isHex (getD cs (n * 2 + 1) 0)) ≡ false)

@@ -1,0 +1,5 @@
+pub mod Rows
+pub mod Words
+pub mod Places
+pub mod Short
+pub mod Laying

@@ -1,0 +1,35 @@
+// The output line of a packet or of a refusal.
+mod put;
+mod words;
+
+use packet::Packet;
+ghost use mathlib.Core.Path.{_≡_};
+ghost use Rattle.packet.specs.Numbers.{gives, number};
+ghost use Rattle.rows.specs.Rows.{outLine, rowIn};
+
+// The output line of line k, which is packet p, at the start of `out`, and its length. An `out` of
+// fewer than 64 bytes is left as it was.
+pub fn packet_row(k: u64, p: Packet, out: &mut [u8]) -> usize
+    ensures { λ r. ⌜ (r, now (out .exit)) ≡ rowIn (outLine k (gives p)) (now (out .entry)) ⌝ }
+{
+    if out.len() < 64 {
+        return 0;
+    }
+    let a = put::decimal(out, 0, k);
+    let b = put::byte(out, a, b'\t');
+    let c = put::packet(out, b, p);
+    put::byte(out, c, b'\n')
+}
+
+// The same of line k, which is refused with number n.
+pub fn bad_row(k: u64, n: u8, out: &mut [u8]) -> usize
+    ensures { λ r. ⌜ (r, now (out .exit)) ≡ rowIn (outLine k (number n)) (now (out .entry)) ⌝ }
+{
+    if out.len() < 64 {
+        return 0;
+    }
+    let a = put::decimal(out, 0, k);
+    let b = put::byte(out, a, b'\t');
+    let c = put::bad(out, b, n);
+    put::byte(out, c, b'\n')
+}

@@ -3,4 +3,5 @@ pub mod Line
 pub mod Stream
 pub mod Cuts
 pub mod Pieces
+pub mod Calls
 pub mod Settled

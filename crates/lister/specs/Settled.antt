@@ -4,10 +4,12 @@ use mathlib.Core.Path.{_≡_, refl, sym, ap, _∙_}
 use mathlib.Core.Bool.{cond}
 use mathlib.Core.List.{List}
 use lib.Dec.{eqb}
+use native.Mathlib.Omega.{arith}
+use borrow.Author.Tests.{ne-eqb}
 use Rattle.packet.specs.declared.Packet.{Packet}
 use Rattle.packet.specs.declared.Refusal.{Refusal}
-use Rattle.packet.specs.declared.Refusal.the-variants.{Length, Kind, Marked, Forbidden, NotOurs, Disabled, NotOpen, Misfit, StillWaiting, OtherAgent, NoTag, Argument, NoEntry, NoRight, PagesOff, NoCredit, Room}
 use Rattle.packet.specs.Numbers.{Said, gives, number, numberOf}
+use Rattle.packet.specs.Told.{refusalOf, refusal-back, number-between}
 use Rattle.rows.specs.Rows.{rowIn}
 use Rattle.lister.specs.declared.Line.{Line}
 use Rattle.lister.specs.declared.Line.the-variants.{Read, Refused, Unreadable}
@@ -17,25 +19,7 @@ use Rattle.lister.specs.Pieces.{fed, finished}
 
 -- the answer that has a number
 numbered : ℕ → Line
-numbered n =
-    cond (eqb n 0) Unreadable
-    (cond (eqb n 1) (Refused Length)
-    (cond (eqb n 2) (Refused Kind)
-    (cond (eqb n 3) (Refused Marked)
-    (cond (eqb n 4) (Refused Forbidden)
-    (cond (eqb n 5) (Refused NotOurs)
-    (cond (eqb n 6) (Refused Disabled)
-    (cond (eqb n 7) (Refused NotOpen)
-    (cond (eqb n 8) (Refused Misfit)
-    (cond (eqb n 9) (Refused StillWaiting)
-    (cond (eqb n 10) (Refused OtherAgent)
-    (cond (eqb n 11) (Refused NoTag)
-    (cond (eqb n 12) (Refused Argument)
-    (cond (eqb n 13) (Refused NoEntry)
-    (cond (eqb n 14) (Refused NoRight)
-    (cond (eqb n 15) (Refused PagesOff)
-    (cond (eqb n 16) (Refused NoCredit)
-    (Refused Room)))))))))))))))))
+numbered n = cond (eqb n 0) Unreadable (Refused (refusalOf n))
 
 answered : Said Packet → Line
 answered (gives p) = Read p
@@ -43,23 +27,9 @@ answered (number n) = numbered n
 
 refused-back : (r : Refusal) → numbered (numberOf r) ≡ Refused r
 unfolding numbered
-refused-back Length = refl
-refused-back Kind = refl
-refused-back Marked = refl
-refused-back Forbidden = refl
-refused-back NotOurs = refl
-refused-back Disabled = refl
-refused-back NotOpen = refl
-refused-back Misfit = refl
-refused-back StillWaiting = refl
-refused-back OtherAgent = refl
-refused-back NoTag = refl
-refused-back Argument = refl
-refused-back NoEntry = refl
-refused-back NoRight = refl
-refused-back PagesOff = refl
-refused-back NoCredit = refl
-refused-back Room = refl
+refused-back r =
+    let some = number-between r .0 in
+    rw (ne-eqb (numberOf r) 0 (λ z. omega arith), refusal-back r)
 
 answered-back : (l : Line) → answered (paperLine l) ≡ l
 unfolding answered numbered

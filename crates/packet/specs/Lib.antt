@@ -6,3 +6,4 @@ pub mod Reading
 pub mod Writing
 pub mod Normal
 pub mod Laws
+pub mod Told

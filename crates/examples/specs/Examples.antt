@@ -5,7 +5,7 @@ use mathlib.Core.List.{List, [], _∷_, _++_}
 use Prim.Native.Nat.{ℕ, _^_}
 use Rattle.packet.specs.declared.Packet.{Packet}
 use Rattle.packet.specs.declared.Body.the-variants.{Tr, Inv, Ic, Prq}
-use Rattle.packet.specs.Numbers.{Said, gives, number}
+use Rattle.packet.specs.Numbers.{gives, number}
 use Rattle.packet.specs.Frames.{frameOf, four}
 use Rattle.packet.specs.Forms.{choose}
 use Rattle.packet.specs.Kinds.{bodyIn, shaped, allowedBody, withinBody, loadOf, formOf, framed}

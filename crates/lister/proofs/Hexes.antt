@@ -5,7 +5,6 @@ use mathlib.Core.List.{List, [], _∷_, _++_}
 use Prim.Native.Nat.{ℕ, suc, _+_, _*_, _%_, _≤_, _<_}
 use native.Mathlib.Numerals.{add-one}
 use native.Mathlib.Omega.{arith}
-use lib.Dec.{ltb}
 use lib.ListN.{length, take, drop, getD, set, take-append-drop}
 use lib.Seq.{take-suc, drop-cons, take-suc-set, append-snoc, length-take-le}
 use borrow.Author.Tests.{lt-ltb, le-ltb}

@@ -6,10 +6,9 @@ use Prim.Native.Nat.{ℕ, _+_, _-_, _≤_, _<_, min, zero-le}
 use native.Mathlib.Nat.{zero-add, not-suc-le-zero, min-eq-left, min-eq-right}
 use native.Mathlib.Omega.{arith}
 use lib.Dec.{ltb, leb}
-use lib.ListN.{length, take, drop, take-append-drop}
+use lib.ListN.{length, take, take-append-drop}
 use lib.Seq.{paste, take-all, take-length, take-append-add, length-take-le}
 use borrow.Author.Tests.{leb-true, leb-false, lt-ltb, le-ltb}
-use Rattle.lister.specs.declared.Fed.{Fed}
 use Rattle.rows.specs.Rows.{outLine, rowIn}
 use Rattle.rows.specs.Short.{outLine-short}
 use Rattle.lister.specs.Line.{lineRead, lineText}

@@ -1,15 +1,14 @@
 -- A line of hex digits and the bytes that it spells.
-use mathlib.Core.Path.{_≡_, refl, sym, ap, _∙_}
-use mathlib.Core.Bool.{Bool, true, false, _&&_}
+use mathlib.Core.Path.{_≡_, _∙_}
 use mathlib.Core.List.{List}
 use Prim.Native.Nat.{ℕ, _+_, _*_, _%_, _≤_, _<_}
 use native.Mathlib.Omega.{arith}
-use lib.ListN.{length, take, getD}
+use lib.ListN.{length, take}
 use lib.Seq.{take-all, take-take, getD-take, length-take-le}
 use borrow.Author.Tests.{le-ltb, eq-eqb}
-use Rattle.packet.specs.Numbers.{Said, number, demand}
+use Rattle.packet.specs.Numbers.{number, demand}
 use Rattle.packet.specs.Reading.{reading}
-use Rattle.text.specs.Digits.{isHex, allHex, unhex}
+use Rattle.text.specs.Digits.{allHex, unhex}
 use Rattle.lister.specs.Line.{lineRead}
 use Rattle.lister.specs.Runs.{HexRun}
 use Rattle.lister.proofs.Hexes.{no-byte}

@@ -1,6 +1,6 @@
 -- What a caller needs of a call: that it stays within what was lent, and that the next call finds what the last one kept.
 use Prim.Native.Nat.{ℕ, _≤_, min, zero-le}
-use mathlib.Core.Path.{_≡_, refl, sym, ap, _∙_}
+use mathlib.Core.Path.{_≡_, refl, ap, _∙_}
 use mathlib.Core.Bool.{Bool, true, false, cond}
 use mathlib.Core.List.{List, _++_}
 use native.Mathlib.Nat.{le-trans, min-le-left, min-eq-left}

@@ -1,10 +1,10 @@
 -- What a piece of the input leaves.
-use Prim.Native.Nat.{ℕ, _+_, _-_, _*_, _/_, _^_, _≤_, _<_, min}
+use Prim.Native.Nat.{ℕ, _-_, _/_, _^_, _≤_, _<_, min}
 use mathlib.Core.Path.{_≡_}
 use mathlib.Core.Bool.{Bool, true, cond, not, _&&_}
 use mathlib.Core.List.{List, [], _∷_}
 use lib.Dec.{ltb, eqb}
-use lib.ListN.{length, take, drop, getD}
+use lib.ListN.{length, take, getD}
 use Rattle.lister.specs.declared.Fed.{Fed}
 use Rattle.rows.specs.Rows.{atStart, rowIn}
 use Rattle.lister.specs.Stream.{printed, numberAfter, startAfter, lastText, cut}

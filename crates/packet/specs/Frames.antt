@@ -1,6 +1,6 @@
 -- Bytes are numbered as sent, high byte first. A header taken apart into a frame, and a frame spelled as bytes.
 use Prim.Native.Nat.{ℕ, _+_, _*_, _/_, _%_}
-use mathlib.Core.Bool.{Bool, cond}
+use mathlib.Core.Bool.{cond}
 use mathlib.Core.List.{List, [], _∷_, _++_}
 use lib.ListN.{getD, length}
 use lib.Dec.{ltb}

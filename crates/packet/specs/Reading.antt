@@ -1,6 +1,6 @@
 -- Reading, in its order: 1 (under 12, over 144), 2, 1 (any other length), 3, 4.
 use Prim.Native.Nat.{ℕ}
-use mathlib.Core.Bool.{Bool, cond}
+use mathlib.Core.Bool.{cond}
 use mathlib.Core.List.{List, []}
 use lib.ListN.{length, drop}
 use lib.Dec.{ltb, eqb}

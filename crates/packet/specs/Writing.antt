@@ -1,6 +1,5 @@
 -- Writing, in its order: 12, 4, 17; the bytes of a packet; the buffer afterwards.
 use Prim.Native.Nat.{ℕ, _+_}
-use mathlib.Core.Bool.{Bool, cond}
 use mathlib.Core.List.{List, _++_}
 use lib.ListN.{length, take, drop}
 use lib.Dec.{ltb, eqb}

@@ -5,7 +5,6 @@ use packet::Frame;
 use packet::dwords;
 use packet::enables;
 ghost use mathlib.Core.Path.{_≡_};
-ghost use Prim.Native.Nat.{_≤_};
 ghost use Rattle.packet.specs.Forms.{choose, lengthOf};
 ghost use Rattle.packet.specs.Kinds.{shapedMem, shapedFetch, shapedLong, shaped};
 

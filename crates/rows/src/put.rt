@@ -3,7 +3,6 @@ use crate::words;
 use crate::words::Label;
 use crate::words::Letters;
 use packet::Packet;
-ghost use mathlib.Core.Path.{_≡_};
 ghost use mathlib.Core.List.{[], _∷_};
 ghost use Prim.Native.Nat.{_+_, _≤_, _<_};
 ghost use lib.ListN.{length};

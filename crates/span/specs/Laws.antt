@@ -1,20 +1,18 @@
 -- What the definitions mean.
 use mathlib.Core.Path.{_≡_, refl, sym, ap, _∙_}
-use mathlib.Core.Bool.{Bool, true, false, cond, _&&_}
-use mathlib.Core.Logic.{⊎-elim}
-use Prim.Native.Nat.{ℕ, zero, suc, _+_, _-_, _*_, _/_, _%_, _^_, _<_, _≤_, min, max}
-use native.Mathlib.Nat.{add-zero, zero-add, pow-suc, mul-assoc, min-eq-left, max-eq-left, max-eq-right, div-mul-le-self, le-div-iff-mul-le, lt-div-mul-add, div-lt-iff-lt-mul, suc-mul, add-mul, le-max-left, le-max-right, mul-mod-left, mul-le-mul-right, le-of-lt, le-trans, le-refl, mod-lt, div-eq-of-lt, lt-of-lt-of-le}
+use mathlib.Core.Bool.{Bool, true, false, cond}
+use Prim.Native.Nat.{ℕ, zero, suc, _+_, _-_, _*_, _/_, _%_, _^_, _<_, _≤_, max}
+use native.Mathlib.Nat.{add-zero, pow-suc, mul-assoc, min-eq-left, max-eq-left, max-eq-right, div-mul-le-self, le-div-iff-mul-le, lt-div-mul-add, div-lt-iff-lt-mul, suc-mul, add-mul, le-max-left, le-max-right, mul-mod-left, mul-le-mul-right, le-trans, le-refl}
 use native.Mathlib.Numerals.{add-one}
 use native.Mathlib.Omega.{arith}
 use native.Mathlib.Decide.{decLe}
 use lib.Dec.{eqb, leb, ltb}
-use lib.Pow.{pow-add, pow-pos, pow-mono, shr-shr, shr-lt, split, high, low, mod-pow-add, suc-ones, ones-lt}
-use borrow.Author.Tests.{leb-true, le-leb, lt-ltb, ltb-true, ltb-false, eqb-true, eqb-false, eq-eqb, ne-eqb}
+use lib.Pow.{pow-add, pow-pos, pow-mono, shr-shr, high, low, mod-pow-add}
+use borrow.Author.Tests.{leb-true, le-leb, lt-ltb, ltb-true, ltb-false, eqb-true}
 use Rattle.lemmas.specs.Cases.{byCases, and-both}
 use Rattle.span.specs.declared.Range.{Range}
-use Rattle.span.specs.declared.Size.{Size}
 use Rattle.span.specs.declared.Size.the-variants.{Exponent, NoSize}
-use Rattle.span.specs.Size.{bit, lowestZero, sizeAt, sizeOf, bytesIn, bytesCoded, baseOf}
+use Rattle.span.specs.Size.{bit, lowestZero, sizeOf, bytesIn, bytesCoded, baseOf}
 use Rattle.span.specs.Range.{regionIn, regionOf, roundedOf, meetsOf}
 
 -- A search that stands at bit b: all below it are ones.

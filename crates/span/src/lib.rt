@@ -1,7 +1,7 @@
 // Sizes and ranges. A size is the exponent of a power of two and a range ends with its last byte,
 // so that 2^64 never has to fit.
 ghost use mathlib.Core.Path.{_≡_};
-ghost use Prim.Native.Nat.{_/_, _*_, _^_, _≤_, max, min};
+ghost use Prim.Native.Nat.{_/_, _*_, _≤_, max};
 ghost use Rattle.span.specs.Size.{lowestZero, sizeAt, sizeOf, bytesIn, bytesCoded, baseOf, translationOf};
 ghost use Rattle.span.specs.Range.{unitExponent, regionOf, roundedOf, meetsOf};
 

@@ -1,10 +1,10 @@
 -- What the layers above cite of packets, so that none of them opens one.
-use mathlib.Core.Path.{_≡_, refl, sym, ap, _∙_}
-use mathlib.Core.Bool.{Bool, true, false, cond, not}
-use mathlib.Core.List.{List, _++_}
-use Prim.Native.Nat.{ℕ, _+_, _-_, _*_, _/_, _%_, _^_, _<_, _≤_}
+use mathlib.Core.Path.{_≡_, refl, ap, _∙_}
+use mathlib.Core.Bool.{Bool, true, false, not}
+use mathlib.Core.List.{List}
+use Prim.Native.Nat.{ℕ, _/_, _^_, _<_}
 use native.Mathlib.Omega.{arith}
-use lib.Dec.{eqb, ltb}
+use lib.Dec.{eqb}
 use lib.ListN.{length, take, drop, length-append, length-drop}
 use lib.Seq.{take-at, drop-at}
 use borrow.Author.Tests.{eq-eqb}
@@ -12,18 +12,15 @@ use Rattle.lemmas.specs.Cases.{byCases}
 use Rattle.packet.specs.declared.Packet.{Packet}
 use Rattle.packet.specs.declared.Completion.{Completion}
 use Rattle.packet.specs.declared.InvalidateRequest.{InvalidateRequest}
-use Rattle.packet.specs.declared.Access.{Access}
-use Rattle.packet.specs.declared.Access.the-variants.{Read, Write}
 use Rattle.packet.specs.declared.Frame.{Frame}
 use Rattle.packet.specs.declared.Form.{Form}
 use Rattle.packet.specs.declared.Form.the-variants.{Mrd32, Mrd64, Mwr32, Mwr64, CplNoData, CplData, InvReq, InvCpl, PageReq, PrgResp}
-use Rattle.packet.specs.declared.Body.{Body}
-use Rattle.packet.specs.declared.Body.the-variants.{Tr, Mem, Cpl, Inv, Ic, Prq, Prs}
+use Rattle.packet.specs.declared.Body.the-variants.{Cpl, Inv}
 use Rattle.packet.specs.Numbers.{gives}
 use Rattle.packet.specs.Laws.{accepted}
 use Rattle.packet.specs.Frames.{frameOf}
 use Rattle.packet.specs.Forms.{fixedOf}
-use Rattle.packet.specs.Kinds.{hasSize, allowedBody, fetchIn, bodyIn, loadOf}
+use Rattle.packet.specs.Kinds.{hasSize, allowedBody, bodyIn, loadOf}
 use Rattle.packet.specs.Reading.{reading, payloadIn}
 use Rattle.packet.specs.Writing.{writing, bytesOf, after}
 use Rattle.span.specs.declared.Size.{Size}

@@ -1,5 +1,5 @@
 -- The round trips: write then read, reading with ignored bits zero, read then write.
-use Prim.Native.Nat.{ℕ, _+_, _/_, _≤_, _<_}
+use Prim.Native.Nat.{ℕ, _+_, _/_, _≤_}
 use native.Mathlib.Omega.{arith}
 use mathlib.Core.Path.{_≡_, refl, sym, ap, _∙_}
 use mathlib.Core.Bool.{Bool, true}
@@ -7,7 +7,7 @@ use mathlib.Core.List.{List}
 use lib.ListN.{length, take, drop, length-append, length-drop, take-append-drop}
 use lib.Seq.{drop-at}
 use lib.Dec.{ltb, eqb}
-use borrow.Author.Tests.{ltb-true, ltb-false, eqb-true, lt-ltb, le-ltb, eq-eqb}
+use borrow.Author.Tests.{ltb-false, eqb-true, lt-ltb, le-ltb, eq-eqb}
 use Rattle.packet.specs.declared.Packet.{Packet}
 use Rattle.packet.specs.declared.Frame.{Frame}
 use Rattle.packet.specs.declared.Form.{Form}
@@ -16,11 +16,10 @@ use Rattle.packet.specs.declared.Choice.the-variants.{Listed, Unlisted}
 use Rattle.packet.specs.Numbers.{Said, gives, number, refuse}
 use Rattle.packet.specs.Frames.{byte, frameOf, spelled}
 use Rattle.packet.specs.Forms.{choose, fixedOf, lengthOf}
-use Rattle.packet.specs.Kinds.{headIn, shaped, bodyIn, packetIn, within, withinBody, allowed, loadOf, formOf, framed}
+use Rattle.packet.specs.Kinds.{headIn, shaped, bodyIn, packetIn, within, allowed, loadOf, formOf, framed}
 use Rattle.packet.specs.Reading.{readForm, readFrame, readChoice, reading, payloadIn}
 use Rattle.packet.specs.Writing.{writing, bytesOf, after}
 use Rattle.packet.specs.Normal.{maskOf, masked, normalAs, normal}
-use Rattle.lemmas.specs.Cases.{and-both}
 use Rattle.packet.specs.Laws.{demanded, spared, same-gift, Accepted, accepted}
 use Rattle.tlp.specs.Frames.{Bytes, cut, read-cut, spelled-back, fixed-length, fixed-low, frame-sound, spelled-cut}
 use Rattle.tlp.specs.Fields.{Typed, Framed, fields, longest}

@@ -14,7 +14,7 @@ use packet::fixed;
 ghost use mathlib.Core.Path.{_≡_};
 ghost use mathlib.Core.List.{_++_};
 ghost use Prim.Native.Nat.{_+_, _≤_};
-ghost use lib.ListN.{length, take, drop};
+ghost use lib.ListN.{length, drop};
 ghost use Rattle.packet.specs.Frames.{spelled};
 ghost use Rattle.packet.specs.Forms.{fixedOf};
 ghost use Rattle.packet.specs.Kinds.{formOf};

@@ -1,5 +1,5 @@
 use borrow.Author.Tests.{lt-ltb}
-use Rattle.packet.specs.Numbers.{gives, number}
+use Rattle.packet.specs.Numbers.{number}
 use Rattle.rows.specs.Rows.{rowIn}
 use Rattle.rows.specs.Laying.{row}
 use borrow.Author.Needs.{needs}

@@ -4,7 +4,7 @@ use mathlib.Core.List.{[], _++_}
 use Prim.Native.Nat.{_+_, _-_, _*_, _≤_, _<_}
 use native.Mathlib.Omega.{arith}
 use lib.ListN.{length, take, drop, length-drop}
-use lib.Seq.{take-all, length-take-le}
+use lib.Seq.{length-take-le}
 use borrow.Author.Needs.{needs}
 use Rattle.lister.specs.Line.{lineText}
 use Rattle.rows.specs.Places.{Laid}

@@ -1,5 +1,5 @@
 -- Reading, in its order: 1 (under 12, over 144), 2, 1 (any other length), 3, 4.
-use Prim.Native.Nat.{ℕ}
+use Prim.Native.Nat.{ℕ, _*_, _/_}
 use mathlib.Core.Bool.{cond}
 use mathlib.Core.List.{List, []}
 use lib.ListN.{length, drop}
@@ -12,7 +12,7 @@ use Rattle.packet.specs.declared.Packet.{Packet}
 use Rattle.packet.specs.declared.Reading.{Reading}
 use Rattle.packet.specs.declared.Reading.the-variants.{Read, Refused}
 use Rattle.packet.specs.Numbers.{Said, gives, number, numberOf, refuse, demand}
-use Rattle.packet.specs.Frames.{byte, frameOf}
+use Rattle.packet.specs.Frames.{byte, num64At, frameOf}
 use Rattle.packet.specs.Forms.{choose, lengthOf, fixedOf}
 use Rattle.packet.specs.Kinds.{packetIn, shaped, allowed}
 
@@ -50,3 +50,7 @@ loadIn Unlisted b = []
 
 unfoldable pub payloadIn : List ℕ → List ℕ
 payloadIn b = cond (ltb (length b) 12) [] (loadIn (choose (byte b 0) (byte b 7)) b)
+
+-- word k of a payload, eight bytes each; 0 past the last whole one
+unfoldable pub wordAt : List ℕ → ℕ → ℕ
+wordAt b k = cond (ltb k (length b / 8)) (num64At b (8 * k)) 0

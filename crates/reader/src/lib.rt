@@ -13,7 +13,7 @@ ghost use mathlib.Core.Path.{_≡_};
 ghost use Prim.Native.Nat.{_≤_};
 ghost use lib.ListN.{length, drop};
 ghost use Rattle.packet.specs.Frames.{frameOf, wordsAt};
-ghost use Rattle.packet.specs.Reading.{paperRead, reading, payloadIn};
+ghost use Rattle.packet.specs.Reading.{paperRead, reading, payloadIn, wordAt};
 
 fn words(b: &[u8]) -> u16
     requires { ⌜ 12 ≤ length (now b) ⌝ }
@@ -73,5 +73,16 @@ pub fn payload(b: &[u8]) -> &[u8]
     match forms::choice(b[0], b[7]) {
         Choice::Listed(m) => part_from(b, packet::fixed(m)),
         Choice::Unlisted => &b[..0],
+    }
+}
+
+// Word k of a payload, eight bytes each; 0 past the last whole one.
+pub fn word(payload: &[u8], k: usize) -> u64
+    ensures { λ r. ⌜ r ≡ wordAt (now (payload .entry)) k ⌝ }
+{
+    if k < payload.len() / 8 {
+        nums::num64(payload, 8 * k)
+    } else {
+        0
     }
 }

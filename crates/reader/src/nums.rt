@@ -33,7 +33,7 @@ pub(crate) fn num32(b: &[u8], i: usize) -> u32
     num16(b, i) as u32 * 65536 + num16(b, i + 2) as u32
 }
 
-fn num64(b: &[u8], i: usize) -> u64
+pub(crate) fn num64(b: &[u8], i: usize) -> u64
     requires { ⌜ i + 8 ≤ length (now b) ⌝ }
     ensures { λ r. ⌜ r ≡ num64At (now (b .entry)) i ⌝ }
 {

@@ -1,3 +1,4 @@
 pub mod Size
 pub mod Range
 pub mod Laws
+pub mod Runs

@@ -15,9 +15,28 @@ regionOf a e = regionIn a (min e 64)
 abbrev pub unitExponent : ℕ → ℕ
 unitExponent stu = 12 + stu % 32
 
+abbrev pub unitBytes : ℕ → ℕ
+unitBytes stu = 2 ^ unitExponent stu
+
 -- a region below the unit is rounded up to it
 unfoldable pub roundedOf : ℕ → ℕ → ℕ → Range
 roundedOf a e u = regionOf a (max e u)
+
+-- a byte and the rest that follow it, as far as addresses go
+unfoldable pub reachOf : ℕ → ℕ → Range
+reachOf first rest = record { first = first; last = min (first + rest) (2 ^ 64 - 1) }
+
+-- how many units a Translation Request is for: one, and the further ones after it, 15 at most
+abbrev pub unitsOf : ℕ → ℕ
+unitsOf further = 1 + further % 16
+
+-- the range of a Translation Request: its units from the one that holds the address
+unfoldable pub runOf : ℕ → ℕ → ℕ → Range
+runOf a further stu = reachOf (regionOf a (unitExponent stu) .first) (unitsOf further * unitBytes stu - 1)
+
+-- the place in the region of base that a has in its own
+unfoldable pub movedTo : ℕ → ℕ → ℕ → ℕ
+movedTo base a e = regionOf base e .first + (a - regionOf a e .first)
 
 -- two ranges overlap where each begins no later than the other ends
 abbrev pub meetsOf : Range → Range → Bool

@@ -1,9 +1,9 @@
 // Sizes and ranges. A size is the exponent of a power of two and a range ends with its last byte,
 // so that 2^64 never has to fit.
 ghost use mathlib.Core.Path.{_≡_};
-ghost use Prim.Native.Nat.{_/_, _*_, _≤_, max};
+ghost use Prim.Native.Nat.{_/_, _*_, _^_, _≤_, max};
 ghost use Rattle.span.specs.Size.{lowestZero, sizeAt, sizeOf, bytesIn, bytesCoded, baseOf, translationOf};
-ghost use Rattle.span.specs.Range.{unitExponent, regionOf, roundedOf, meetsOf};
+ghost use Rattle.span.specs.Range.{unitExponent, unitBytes, regionOf, roundedOf, reachOf, runOf, movedTo, meetsOf};
 
 pub enum Size {
     Exponent(u32),
@@ -88,6 +88,24 @@ pub fn unit_exponent(stu: u8) -> u32
     12 + stu as u32 % 32
 }
 
+// The bytes of a unit.
+pub fn unit_bytes(stu: u8) -> u64
+    ensures { λ r. ⌜ (r ≡ unitBytes stu) × (1 ≤ r) × (r ≤ 0x800_0000_0000) ⌝ }
+{
+    1u64 << (12 + stu as u32 % 32)
+}
+
+// Which region of 2^exponent bytes an address lies in, counted from 0.
+pub fn region_number(address: u64, exponent: u32) -> u64
+    ensures { λ r. ⌜ r ≡ address / 2 ^ exponent ⌝ }
+{
+    if exponent < 64 {
+        address >> exponent
+    } else {
+        0
+    }
+}
+
 fn larger(a: u32, b: u32) -> u32
     ensures { λ r. ⌜ r ≡ max a b ⌝ }
 {
@@ -99,6 +117,42 @@ pub fn rounded(address: u64, exponent: u32, unit: u32) -> Range
     ensures { λ r. ⌜ r ≡ roundedOf address exponent unit ⌝ }
 {
     region(address, larger(exponent, unit))
+}
+
+// A byte and the `rest` that follow it, as far as addresses go.
+pub fn reach(first: u64, rest: u64) -> Range
+    ensures { λ r. ⌜ r ≡ reachOf first rest ⌝ }
+{
+    if 0xFFFF_FFFF_FFFF_FFFF - first < rest {
+        Range {
+            first,
+            last: 0xFFFF_FFFF_FFFF_FFFF,
+        }
+    } else {
+        Range {
+            first,
+            last: first + rest,
+        }
+    }
+}
+
+// The unit that holds an address and the `further` ones after it: 15 at most, whatever the byte says.
+pub fn run(address: u64, further: u8, stu: u8) -> Range
+    ensures { λ r. ⌜ r ≡ runOf address further stu ⌝ }
+{
+    let unit = unit_bytes(stu);
+    let n = 1 + (further % 16) as u64;
+    let first = region(address, unit_exponent(stu)).first;
+    reach(first, n * unit - 1)
+}
+
+// The place in the region of `base` that an address has in its own.
+pub fn moved(base: u64, address: u64, exponent: u32) -> u64
+    ensures { λ r. ⌜ r ≡ movedTo base address exponent ⌝ }
+{
+    let there = region(base, exponent).first;
+    let here = region(address, exponent).first;
+    there + (address - here)
 }
 
 pub fn meets(a: Range, b: Range) -> bool

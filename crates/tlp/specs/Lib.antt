@@ -6,3 +6,4 @@ pub mod Refit
 pub mod Trips
 pub mod Laws
 pub mod Settled
+pub mod Translations

@@ -1,5 +1,7 @@
 // The packet layer, as the Function sees it: what is below stands in `span`, `packet`, `reader` and
 // `writer`, and its laws in specs/.
+ghost use mathlib.Core.Path.{_≡_};
+ghost use Rattle.tlp.specs.Translations.{translationAt};
 pub use packet::Access;
 pub use packet::Body;
 pub use packet::Completion;
@@ -25,9 +27,21 @@ pub use span::Range;
 pub use span::Size;
 pub use span::Translation;
 pub use span::meets;
+pub use span::moved;
+pub use span::reach;
 pub use span::region;
+pub use span::region_number;
 pub use span::rounded;
+pub use span::run;
 pub use span::size_of;
 pub use span::translation_of;
+pub use span::unit_bytes;
 pub use span::unit_exponent;
 pub use writer::write_packet;
+
+// Translation k of a payload.
+pub fn translation_at(payload: &[u8], k: usize) -> Translation
+    ensures { λ r. ⌜ r ≡ translationAt (now (payload .entry)) k ⌝ }
+{
+    span::translation_of(reader::word(payload, k))
+}

@@ -1,0 +1,30 @@
+use Rattle.lemmas.specs.Cases.{cases}
+use Rattle.atc.specs.Cache.{unitDropped}
+use borrow.Author.Needs.{needs}
+use Rattle.atc.proofs.drop_unit.Statement.{statement}
+use Rattle.atc.proofs.drop_unit.Tie as tie
+
+slot-of-requires : tie.Need-slot-of-requires
+slot-of-requires c κs = search needs
+
+free-slot-requires : tie.Need-free-slot-requires
+free-slot-requires c κs = search needs
+
+mul-t8 : tie.Need-mul-t8
+mul-t8 c = search needs
+
+element-set-from-c : tie.Need-element-set-from-c
+element-set-from-c c = search needs
+
+returns : tie.Need-returns
+unfolding unitDropped
+returns c = rw (c .free-slot .ensures, ← c .before .before .slot-of .ensures) (search cases depth 12)
+
+returns-2 : tie.Need-returns-2
+unfolding unitDropped
+returns-2 c = rw (← c .before .slot-of .ensures) (search cases depth 12)
+
+pub drop-unit-spec : {M : Type 1} → statement M
+drop-unit-spec =
+    tie.close
+    (tie.spec slot-of-requires free-slot-requires mul-t8 element-set-from-c returns returns-2)

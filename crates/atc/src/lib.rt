@@ -1,0 +1,156 @@
+// The translation cache: 32 slots of one unit each, and the hand.
+use span::Range;
+ghost use mathlib.Core.Path.{_≡_};
+ghost use Rattle.lemmas.specs.First.{firstAt};
+ghost use Rattle.atc.specs.Cache.{nothing, holds, isFree, emptied, found, filled, unitDropped, touches, cut, spanDropped};
+
+// One slot. A free one holds nothing else.
+pub struct Entry {
+    pub used: bool,
+    pub r: bool,
+    pub w: bool,
+    pub n: bool,
+    pub u: bool,
+    pub unit: u64,
+    pub to: u64,
+}
+
+pub struct Cache {
+    pub hand: u32,
+    pub slots: [Entry; 32],
+}
+
+pub enum Found {
+    Hit(Entry),
+    Miss,
+}
+
+fn free_slot() -> Entry
+    ensures { λ r. ⌜ r ≡ nothing ⌝ }
+{
+    Entry {
+        used: false,
+        r: false,
+        w: false,
+        n: false,
+        u: false,
+        unit: 0,
+        to: 0,
+    }
+}
+
+// No entry is left, and the hand stays.
+pub fn empty(hand: u32) -> Cache
+    ensures { λ r. ⌜ r ≡ emptied hand ⌝ }
+{
+    Cache {
+        hand,
+        slots: [free_slot(); 32],
+    }
+}
+
+fn is_of(e: Entry, unit: u64) -> bool
+    ensures { λ r. ⌜ r ≡ holds unit e ⌝ }
+{
+    if e.used { e.unit == unit } else { false }
+}
+
+// The slot that holds a unit, and 32 where none does.
+fn slot_of(slots: [Entry; 32], unit: u64) -> usize
+    ensures { λ r. ⌜ r ≡ firstAt (holds unit) slots ⌝ }
+{
+    let mut i: usize = 0;
+    while i < 32 {
+        let e = slots[i];
+        if is_of(e, unit) {
+            return i;
+        }
+        i += 1;
+    }
+    i
+}
+
+fn lowest_free(slots: [Entry; 32]) -> usize
+    ensures { λ r. ⌜ r ≡ firstAt isFree slots ⌝ }
+{
+    let mut i: usize = 0;
+    while i < 32 {
+        if !slots[i].used {
+            return i;
+        }
+        i += 1;
+    }
+    i
+}
+
+// The entry of a unit.
+pub fn find(slots: [Entry; 32], unit: u64) -> Found
+    ensures { λ r. ⌜ r ≡ found slots unit ⌝ }
+{
+    let i = slot_of(slots, unit);
+    if i < 32 {
+        Found::Hit(slots[i])
+    } else {
+        Found::Miss
+    }
+}
+
+// The entry of the same unit is replaced, else the lowest free slot is taken, else the slot under
+// the hand, which steps.
+pub fn fill(mut c: Cache, e: Entry) -> Cache
+    ensures { λ r. ⌜ r ≡ filled e c ⌝ }
+{
+    let slots = c.slots;
+    let i = slot_of(slots, e.unit);
+    if i < 32 {
+        c.slots[i] = e;
+        return c;
+    }
+    let j = lowest_free(slots);
+    if j < 32 {
+        c.slots[j] = e;
+        return c;
+    }
+    let hand = c.hand;
+    let k = (hand % 32) as usize;
+    c.slots[k] = e;
+    c.hand = std::num::wrapping_add_u32(hand, 1);
+    c
+}
+
+// The entry of a unit is deleted.
+pub fn drop_unit(mut c: Cache, unit: u64) -> Cache
+    ensures { λ r. ⌜ r ≡ unitDropped unit c ⌝ }
+{
+    let slots = c.slots;
+    let i = slot_of(slots, unit);
+    if i < 32 {
+        c.slots[i] = free_slot();
+    }
+    c
+}
+
+fn is_in(e: Entry, stu: u8, range: Range) -> bool
+    ensures { λ r. ⌜ r ≡ touches stu range e ⌝ }
+{
+    if e.used {
+        span::meets(span::region(e.unit, span::unit_exponent(stu)), range)
+    } else {
+        false
+    }
+}
+
+// Every entry whose unit meets a range is deleted.
+pub fn drop_span(mut slots: [Entry; 32], stu: u8, range: Range) -> [Entry; 32]
+    ensures { λ r. ⌜ r ≡ spanDropped stu range slots ⌝ }
+{
+    let mut i: usize = 0;
+    while i < 32 {
+        let e = slots[i];
+        if is_in(e, stu, range) {
+            slots[i] = free_slot();
+        }
+        i += 1;
+    }
+    slots
+}

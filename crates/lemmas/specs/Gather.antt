@@ -1,0 +1,22 @@
+-- One number from all elements of a list: a sum, or the union of sets that are kept as bits.
+use mathlib.Core.Path.{_≡_}
+use mathlib.Core.List.{List, [], _∷_}
+use Prim.Native.Nat.{ℕ, _+_, _<_}
+use native.Mathlib.Numerals.{add-one}
+use lib.ListN.{length, getD, drop}
+use lib.Seq.{drop-cons, drop-length}
+
+unfoldable pub gather : {A : Type 0} → (ℕ → ℕ → ℕ) → (A → ℕ) → List A → ℕ
+gather op f [] = 0
+gather op f (x ∷ xs) = op (f x) (gather op f xs)
+
+module _ {A : Type 0} (op : ℕ → ℕ → ℕ) (f : A → ℕ) where
+  -- a loop that goes down over an array: before it,
+  pub gather-start : (n : ℕ) (l : List A) → length l ≡ n → 0 ≡ gather op f (drop n l)
+  unfolding gather
+  gather-start n l e = rw (← e, drop-length l)
+
+  -- and in a turn
+  pub gather-turn : {v w : ℕ} (i : ℕ) (d : A) (l : List A) → i < length l → v ≡ gather op f (drop (i + 1) l) → w ≡ f (getD l i d) → op w v ≡ gather op f (drop i l)
+  unfolding gather
+  gather-turn {v} {w} i d l h inv e = rw (drop-cons l i d h, e, inv, add-one i)

@@ -1,0 +1,54 @@
+-- The page request interface. 01, "The Function's tables", Page requests.
+use mathlib.Core.Bool.{Bool, false}
+use mathlib.Core.List.{List}
+use Prim.Native.Nat.{ℕ, _+_, _%_, _^_}
+use lib.Dec.{leb, ltb}
+use lib.ListN.{getD, set, replicate}
+use Rattle.lemmas.specs.Gather.{gather}
+use Rattle.packet.specs.declared.PrgIndex.{PrgIndex}
+use Rattle.pages.specs.declared.Interface.the-variants.{Off, On, Stopped}
+use Rattle.pages.specs.declared.Group.{Group}
+use Rattle.pages.specs.declared.Pages.{Pages}
+
+abbrev pub idle : Group
+idle = record { waits = false; requests = 0 }
+
+-- no group is open
+abbrev pub closedAll : List Group
+closedAll = replicate 32 idle
+
+abbrev pub switchedOff : Pages
+switchedOff = record { interface = Off; allocation = 0; groups = closedAll }
+
+abbrev pub switchedOn : ℕ → Pages
+switchedOn allocation = record { interface = On; allocation = allocation; groups = closedAll }
+
+abbrev pub stopped : Pages
+stopped = record { interface = Stopped; allocation = 0; groups = closedAll }
+
+abbrev pub isIndex : PrgIndex → Bool
+isIndex k = ltb (k .0) 32
+
+abbrev pub groupAt : List Group → PrgIndex → Group
+groupAt groups k = getD groups (k .0 % 32) idle
+
+unfoldable pub isWaiting : List Group → PrgIndex → Bool
+isWaiting groups k = groupAt groups k .waits
+
+abbrev pub requestsOf : Group → ℕ
+requestsOf g = g .requests
+
+-- the credits in use: one for each request of an open group
+unfoldable pub used : List Group → ℕ
+used groups = gather _+_ requestsOf groups
+
+unfoldable pub isSpent : List Group → ℕ → Bool
+isSpent groups allocation = leb allocation (used groups)
+
+-- a request more; after the last of a group the group waits
+unfoldable pub joined : List Group → PrgIndex → Bool → List Group
+joined groups k last = set groups (k .0 % 32) (record { waits = last; requests = (groupAt groups k .requests + 1) % 2 ^ 16 })
+
+-- a group is closed and its credits return
+unfoldable pub closed : List Group → PrgIndex → List Group
+closed groups k = set groups (k .0 % 32) idle

@@ -1,0 +1,129 @@
+// The page request interface.
+use packet::PrgIndex;
+ghost use mathlib.Core.Path.{_≡_};
+ghost use Prim.Native.Nat.{_≤_};
+ghost use Rattle.pages.specs.Pages.{idle, switchedOff, switchedOn, stopped, isIndex, isWaiting, requestsOf, used, isSpent, joined, closed};
+
+pub enum Interface {
+    Off,
+    On,
+    Stopped,
+}
+
+// The page requests of a group that have no response, and whether the last of them was sent.
+pub struct Group {
+    pub waits: bool,
+    pub requests: u16,
+}
+
+// Every request of an open group has a credit of the allocation.
+pub struct Pages {
+    pub interface: Interface,
+    pub allocation: u16,
+    pub groups: [Group; 32],
+}
+
+fn no_requests() -> Group
+    ensures { λ r. ⌜ r ≡ idle ⌝ }
+{
+    Group {
+        waits: false,
+        requests: 0,
+    }
+}
+
+pub fn off() -> Pages
+    ensures { λ r. ⌜ r ≡ switchedOff ⌝ }
+{
+    let interface = Interface::Off;
+    Pages {
+        interface,
+        allocation: 0,
+        groups: [no_requests(); 32],
+    }
+}
+
+pub fn on(allocation: u16) -> Pages
+    ensures { λ r. ⌜ r ≡ switchedOn allocation ⌝ }
+{
+    let interface = Interface::On;
+    Pages {
+        interface,
+        allocation,
+        groups: [no_requests(); 32],
+    }
+}
+
+pub fn stop() -> Pages
+    ensures { λ r. ⌜ r ≡ stopped ⌝ }
+{
+    let interface = Interface::Stopped;
+    Pages {
+        interface,
+        allocation: 0,
+        groups: [no_requests(); 32],
+    }
+}
+
+pub fn is_index(k: PrgIndex) -> bool
+    ensures { λ r. ⌜ r ≡ isIndex k ⌝ }
+{
+    k.0 < 32
+}
+
+// Has the last request of a group been sent, and no response come?
+pub fn is_waiting(groups: [Group; 32], k: PrgIndex) -> bool
+    ensures { λ r. ⌜ r ≡ isWaiting groups k ⌝ }
+{
+    let i = (k.0 % 32) as usize;
+    groups[i].waits
+}
+
+fn requests_of(g: Group) -> u32
+    ensures { λ r. ⌜ (r ≡ requestsOf g) × (r ≤ 0xFFFF) ⌝ }
+{
+    g.requests as u32
+}
+
+// The credits in use.
+fn used_credits(groups: [Group; 32]) -> u32
+    ensures { λ r. ⌜ r ≡ used groups ⌝ }
+{
+    let mut sum: u32 = 0;
+    let mut i: usize = 32;
+    while 0 < i {
+        i -= 1;
+        let g = groups[i];
+        sum = requests_of(g) + sum;
+    }
+    sum
+}
+
+// Is every credit in use?
+pub fn is_spent(groups: [Group; 32], allocation: u16) -> bool
+    ensures { λ r. ⌜ r ≡ isSpent groups allocation ⌝ }
+{
+    allocation as u32 <= used_credits(groups)
+}
+
+// One request more in a group.
+pub fn join(mut groups: [Group; 32], k: PrgIndex, last: bool) -> [Group; 32]
+    ensures { λ r. ⌜ r ≡ joined groups k last ⌝ }
+{
+    let i = (k.0 % 32) as usize;
+    let requests = std::num::wrapping_add_u16(groups[i].requests, 1);
+    groups[i] = Group {
+        waits: last,
+        requests,
+    };
+    groups
+}
+
+// A group is answered: it is closed and its credits are free.
+pub fn close(mut groups: [Group; 32], k: PrgIndex) -> [Group; 32]
+    ensures { λ r. ⌜ r ≡ closed groups k ⌝ }
+{
+    let i = (k.0 % 32) as usize;
+    groups[i] = no_requests();
+    groups
+}

@@ -1,0 +1,68 @@
+use denote.Ref.{now}
+use mathlib.Core.Path.{refl, _≡_, sym}
+use Prim.Native.Nat.{_<_, _+_, _-_, _/_, _≤_}
+use mathlib.Core.Bool.{true}
+use native.Mathlib.Omega.{arith}
+use lib.ListN.{length}
+use Rattle.lemmas.specs.All.{allTo, all-start, all-turn, all-stop}
+use Rattle.tlp.specs.Translations.{translationAt}
+use Rattle.replies.specs.Fits.{fitsAt, allFit}
+use borrow.Author.Needs.{needs}
+use Rattle.replies.proofs.all_fit.Statement.{statement}
+use Rattle.replies.proofs.all_fit.Tie as tie
+
+abbrev Inv-loop : tie.InvT-loop
+Inv-loop range e before payload n i₀ i = (n ≡ length payload / 8) × (i ≤ n) × (allTo (λ k. fitsAt range e (before + k) (translationAt payload k .size)) i ≡ true)
+
+abbrev μ-loop : tie.MeasureT-loop
+μ-loop range e before payload n i₀ i = n - i
+
+loop-holds : tie.Need-loop-holds Inv-loop μ-loop
+loop-holds c = (refl, search needs, all-start _)
+
+translation-at-requires : tie.Need-translation-at-requires Inv-loop μ-loop
+translation-at-requires c κs = search needs
+
+add-fits-at : tie.Need-add-fits-at Inv-loop μ-loop
+add-fits-at c = search needs
+
+fits-at-requires : tie.Need-fits-at-requires Inv-loop μ-loop
+fits-at-requires c κs = search needs
+
+add-i : tie.Need-add-i Inv-loop μ-loop
+add-i c = search needs
+
+loop-less : tie.Need-loop-less Inv-loop μ-loop
+loop-less c = search needs
+
+loop-again : tie.Need-loop-again Inv-loop μ-loop
+loop-again c = let l = c .before .before .before .before in
+    (l .loop .inv .0, search needs, all-turn _ _ (l .loop .inv .2) (rw (← c .before .before .translation-at .ensures, ← c .before .fits-at .ensures) (c .if1 .taken)))
+
+returns : tie.Need-returns Inv-loop μ-loop
+unfolding allFit
+returns c = let l = c .before .before .before .before in
+    let h : l .loop .i < length (now (l .before .before .args .payload)) / 8 = omega arith in
+    sym (all-stop _ (l .loop .i) _ h (rw (← c .before .before .translation-at .ensures, ← c .before .fits-at .ensures) (c .if1 .left)))
+
+returns-2 : tie.Need-returns-2 Inv-loop μ-loop
+unfolding allFit
+returns-2 c = let l = c .before in
+    let done : l .loop .i ≡ length (now (l .before .before .args .payload)) / 8 = omega arith in
+    sym (rw done at (l .loop .inv .2))
+
+pub all-fit-spec : {M : Type 1} → statement M
+all-fit-spec =
+    tie.close
+    (tie.spec
+    Inv-loop
+    μ-loop
+    loop-holds
+    translation-at-requires
+    add-fits-at
+    fits-at-requires
+    add-i
+    loop-less
+    loop-again
+    returns
+    returns-2)

@@ -1,0 +1,99 @@
+-- Does a completion with data fit its Translation Request? 01, "The Function's tables", Completion for a TR, data.
+use mathlib.Core.Bool.{Bool, false, cond, _&&_}
+use mathlib.Core.List.{List}
+use Prim.Native.Nat.{ℕ, _+_, _-_, _*_, _/_, _%_, _^_}
+use lib.Dec.{eqb, leb}
+use lib.ListN.{length}
+use Rattle.lemmas.specs.All.{allTo}
+use Rattle.span.specs.declared.Range.{Range}
+use Rattle.span.specs.declared.Size.{Size}
+use Rattle.span.specs.declared.Size.the-variants.{Exponent, NoSize}
+use Rattle.span.specs.Range.{unitExponent, unitsOf}
+use Rattle.tlp.specs.Translations.{translationAt}
+use Rattle.tags.specs.declared.Tr.{Tr}
+use Rattle.tags.specs.Tags.{rangeOf}
+use Rattle.replies.specs.declared.Rcb.{Rcb}
+use Rattle.replies.specs.declared.Rcb.the-variants.{B64, B128}
+use Rattle.replies.specs.declared.Part.{Part}
+use Rattle.replies.specs.declared.Part.the-variants.{Misfit, Off, First, Last}
+
+-- what comes next where the test holds; else it does not fit
+abbrev pub fitting : Bool → Part → Part
+fitting t next = cond t next Misfit
+
+-- RCB in bytes
+abbrev pub boundary : Rcb → ℕ
+boundary B64 = 64
+boundary B128 = 128
+
+-- any multiple of RCB
+unfoldable pub onBoundary : Rcb → ℕ → Bool
+onBoundary rcb n = eqb (n % boundary rcb) 0
+
+-- A first packet, by its Byte Count, Lower Address and payload's bytes, for a request of at most `most` bytes: Byte Count is whole translations, no less
+-- than the payload and no more than was asked. Where it is the payload, the packet is the only one, and must end on the boundary to be read; where
+-- it is more, the packet must end on the boundary for the second to follow.
+unfoldable pub firstPart : Rcb → ℕ → ℕ → ℕ → ℕ → Part
+firstPart rcb most count lower bytes =
+    fitting (eqb (count % 8) 0)
+    (fitting (leb bytes count)
+    (fitting (leb count most)
+    (cond (eqb count bytes)
+    (cond (onBoundary rcb (count + lower)) Last Off)
+    (fitting (onBoundary rcb (bytes + lower)) First))))
+
+-- A second packet brings just the rest, from Lower Address 0.
+unfoldable pub secondPart : ℕ → ℕ → ℕ → ℕ → Part
+secondPart due count lower bytes = fitting (eqb count due) (fitting (eqb bytes due) (fitting (eqb lower 0) Last))
+
+-- The payload is whole translations; something is due only after a first packet of two.
+unfoldable pub partOf : Tr → Rcb → ℕ → ℕ → ℕ → Part
+partOf t rcb count lower bytes =
+    fitting (eqb (bytes % 8) 0)
+    (cond (eqb (t .due) 0) (firstPart rcb (8 * unitsOf (t .further)) count lower bytes) (secondPart (t .due) count lower bytes))
+
+-- the one size of all translations: that of the first, remembered for the second packet
+unfoldable pub sizeOfAll : Tr → List ℕ → Size
+sizeOfAll t payload = cond (eqb (t .due) 0) (translationAt payload 0 .size) (Exponent (t .size))
+
+-- a size as an exponent; where there is none nothing fits, and 0 stands for it
+abbrev pub exponentIn : Size → ℕ
+exponentIn (Exponent e) = e
+exponentIn NoSize = 0
+
+abbrev pub hasSize : Size → ℕ → Bool
+hasSize (Exponent own) e = eqb own e
+hasSize NoSize e = false
+
+-- region k of 2 ^ e bytes, region 0 holding the asked address, begins below the end of the range
+unfoldable pub beginsIn : Range → ℕ → ℕ → Bool
+beginsIn range e k = leb ((range .first / 2 ^ e + k) * 2 ^ e) (range .last)
+
+-- how many translations a first packet brought: what is no longer due, 8 bytes each
+unfoldable pub cameOf : Tr → ℕ
+cameOf t = (t .whole - t .due) / 8
+
+unfoldable pub fitsAt : Range → ℕ → ℕ → Size → Bool
+fitsAt range e k size = hasSize size e && beginsIn range e k
+
+-- every translation of the payload, each counted after those that came before
+unfoldable pub allFit : Range → ℕ → ℕ → List ℕ → Bool
+allFit range e before payload = allTo (λ i. fitsAt range e (before + i) (translationAt payload i .size)) (length payload / 8)
+
+-- a size that is none does not fit, nor does one below the unit
+unfoldable pub sizeFits : Tr → ℕ → Size → List ℕ → Bool
+sizeFits t stu (Exponent e) payload = leb (unitExponent stu) e && allFit (rangeOf t stu) e (cameOf t) payload
+sizeFits t stu NoSize payload = false
+
+abbrev pub fits : Tr → ℕ → List ℕ → Bool
+fits t stu payload = sizeFits t stu (sizeOfAll t payload) payload
+
+-- the translations of a packet that ends off the boundary are not read
+abbrev pub judgedBy : Bool → Part → Part
+judgedBy fit Misfit = Misfit
+judgedBy fit Off = Off
+judgedBy fit First = fitting fit First
+judgedBy fit Last = fitting fit Last
+
+unfoldable pub judged : Tr → ℕ → Rcb → ℕ → ℕ → List ℕ → Part
+judged t stu rcb count lower payload = judgedBy (fits t stu payload) (partOf t rcb count lower (length payload))

@@ -1,0 +1,347 @@
+// A completion with data for a Translation Request: what it is to its request, and what it does to
+// the cache.
+use atc::Cache;
+use atc::Entry;
+use span::Range;
+use span::Size;
+use span::Translation;
+use tags::Tr;
+ghost use mathlib.Core.Path.{_≡_};
+ghost use mathlib.Core.Bool.{cond};
+ghost use Prim.Native.Nat.{_-_, _*_, _≤_};
+ghost use lib.ListN.{length};
+ghost use Rattle.span.specs.Range.{movedTo};
+ghost use Rattle.replies.specs.Fits.{boundary, onBoundary, firstPart, secondPart, partOf, sizeOfAll, exponentIn, hasSize, beginsIn, cameOf, fitsAt, allFit, sizeFits, fits, judged};
+ghost use Rattle.replies.specs.Fills.{opens, entryOf, unitFilled, covered, unitStep, applied, afterFirst};
+
+// The Read Completion Boundary.
+pub enum Rcb {
+    B64,
+    B128,
+}
+
+// What a completion is to its request, in its own words: it does not fit; it is the only one and
+// ends off the boundary; it is the first of two; it is the last.
+pub enum Part {
+    Misfit,
+    Off,
+    First,
+    Last,
+}
+
+pub fn boundary_bytes(rcb: Rcb) -> u16
+    ensures { λ r. ⌜ r ≡ boundary rcb ⌝ }
+{
+    match rcb {
+        Rcb::B64 => 64,
+        Rcb::B128 => 128,
+    }
+}
+
+fn is_on_boundary(rcb: Rcb, n: u32) -> bool
+    ensures { λ r. ⌜ r ≡ onBoundary rcb n ⌝ }
+{
+    match rcb {
+        Rcb::B64 => n % 64 == 0,
+        Rcb::B128 => n % 128 == 0,
+    }
+}
+
+fn first_part(rcb: Rcb, most: u16, count: u16, lower: u8, bytes: usize) -> Part
+    ensures { λ r. ⌜ r ≡ firstPart rcb most count lower bytes ⌝ }
+{
+    if count % 8 != 0 {
+        return Part::Misfit;
+    }
+    if (count as usize) < bytes {
+        return Part::Misfit;
+    }
+    if most < count {
+        return Part::Misfit;
+    }
+    if count as usize == bytes {
+        if is_on_boundary(rcb, count as u32 + lower as u32) {
+            Part::Last
+        } else {
+            Part::Off
+        }
+    } else {
+        if is_on_boundary(rcb, bytes as u32 + lower as u32) {
+            Part::First
+        } else {
+            Part::Misfit
+        }
+    }
+}
+
+fn second_part(due: u16, count: u16, lower: u8, bytes: usize) -> Part
+    ensures { λ r. ⌜ r ≡ secondPart due count lower bytes ⌝ }
+{
+    if count != due {
+        return Part::Misfit;
+    }
+    if bytes != due as usize {
+        return Part::Misfit;
+    }
+    if lower != 0 {
+        return Part::Misfit;
+    }
+    Part::Last
+}
+
+// What it is by its counts and Lower Address, its translations unread.
+fn part_of(t: Tr, rcb: Rcb, count: u16, lower: u8, bytes: usize) -> Part
+    ensures { λ r. ⌜ r ≡ partOf t rcb count lower bytes ⌝ }
+{
+    if bytes % 8 != 0 {
+        return Part::Misfit;
+    }
+    if t.due == 0 {
+        let most = 8 * (1 + t.further as u16 % 16);
+        first_part(rcb, most, count, lower, bytes)
+    } else {
+        second_part(t.due, count, lower, bytes)
+    }
+}
+
+// The size of all translations of a request is that of the first.
+fn size_of_all(t: Tr, payload: &[u8]) -> Size
+    ensures { λ r. ⌜ r ≡ sizeOfAll t (now (payload .entry)) ⌝ }
+{
+    if t.due == 0 {
+        tlp::translation_at(payload, 0).size
+    } else {
+        Size::Exponent(t.size)
+    }
+}
+
+fn exponent(size: Size) -> u32
+    ensures { λ r. ⌜ r ≡ exponentIn size ⌝ }
+{
+    match size {
+        Size::Exponent(e) => e,
+        Size::NoSize => 0,
+    }
+}
+
+fn has_size(size: Size, e: u32) -> bool
+    ensures { λ r. ⌜ r ≡ hasSize size e ⌝ }
+{
+    match size {
+        Size::Exponent(own) => own == e,
+        Size::NoSize => false,
+    }
+}
+
+// Does region k of 2^e bytes, region 0 holding the first byte, begin in the range?
+fn begins_in(range: Range, e: u32, k: u64) -> bool
+    ensures { λ r. ⌜ r ≡ beginsIn range e k ⌝ }
+{
+    let first = span::region_number(range.first, e);
+    let last = span::region_number(range.last, e);
+    if last < first {
+        return false;
+    }
+    k <= last - first
+}
+
+// How many translations came in a first packet.
+fn came(t: Tr) -> u64
+    ensures { λ r. ⌜ (r ≡ cameOf t) × (r ≤ 8191) ⌝ }
+{
+    if t.whole < t.due {
+        0
+    } else {
+        ((t.whole - t.due) / 8) as u64
+    }
+}
+
+fn fits_at(range: Range, e: u32, k: u64, size: Size) -> bool
+    ensures { λ r. ⌜ r ≡ fitsAt range e k size ⌝ }
+{
+    if has_size(size, e) {
+        begins_in(range, e, k)
+    } else {
+        false
+    }
+}
+
+// Translation i of the payload is the one after the `before` that came already.
+fn all_fit(range: Range, e: u32, before: u64, payload: &[u8]) -> bool
+    requires { ⌜ before ≤ 8191 ⌝ }
+    ensures { λ r. ⌜ r ≡ allFit range e before (now (payload .entry)) ⌝ }
+{
+    let n = payload.len() / 8;
+    let mut i: usize = 0;
+    while i < n {
+        let size = tlp::translation_at(payload, i).size;
+        if fits_at(range, e, before + i as u64, size) {
+            i += 1;
+        } else {
+            return false;
+        }
+    }
+    true
+}
+
+fn size_fits(t: Tr, stu: u8, size: Size, payload: &[u8]) -> bool
+    ensures { λ r. ⌜ r ≡ sizeFits t stu size (now (payload .entry)) ⌝ }
+{
+    match size {
+        Size::Exponent(e) => {
+            if e < span::unit_exponent(stu) {
+                false
+            } else {
+                all_fit(tags::range_of(t, stu), e, came(t), payload)
+            }
+        }
+        Size::NoSize => false,
+    }
+}
+
+// One size, not below the unit, and every region begins in the range.
+fn do_fit(t: Tr, stu: u8, payload: &[u8]) -> bool
+    ensures { λ r. ⌜ r ≡ fits t stu (now (payload .entry)) ⌝ }
+{
+    let size = size_of_all(t, payload);
+    size_fits(t, stu, size, payload)
+}
+
+fn if_fitting(t: Tr, stu: u8, payload: &[u8], part: Part) -> Part
+    ensures { λ r. ⌜ r ≡ cond (fits t stu (now (payload .entry))) part Part.Misfit ⌝ }
+{
+    if do_fit(t, stu, payload) {
+        part
+    } else {
+        Part::Misfit
+    }
+}
+
+// What a completion is to its request, translations and all. Nothing is changed.
+pub fn judge(t: Tr, stu: u8, rcb: Rcb, count: u16, lower: u8, payload: &[u8]) -> Part
+    ensures { λ r. ⌜ r ≡ judged t stu rcb count lower (now (payload .entry)) ⌝ }
+{
+    let part = part_of(t, rcb, count, lower, payload.len());
+    match part {
+        Part::Misfit => part,
+        Part::Off => part,
+        Part::First => if_fitting(t, stu, payload, part),
+        Part::Last => if_fitting(t, stu, payload, part),
+    }
+}
+
+fn place_for(x: Translation, e: u32, unit: u64) -> u64
+    ensures { λ r. ⌜ r ≡ cond (x .u) 0 (movedTo (x .base) unit e) ⌝ }
+{
+    if x.u { 0 } else { span::moved(x.base, unit, e) }
+}
+
+// The entry that a translation of 2^e bytes makes for a unit.
+fn entry_of(x: Translation, e: u32, unit: u64) -> Entry
+    ensures { λ r. ⌜ r ≡ entryOf x e unit ⌝ }
+{
+    Entry {
+        used: true,
+        r: x.r,
+        w: x.w,
+        n: x.n,
+        u: x.u,
+        unit,
+        to: place_for(x, e, unit),
+    }
+}
+
+// R or W set.
+fn is_open(x: Translation) -> bool
+    ensures { λ r. ⌜ r ≡ opens x ⌝ }
+{
+    if x.r { true } else { x.w }
+}
+
+// A unit is filled, or loses its entry where the translation grants nothing.
+fn fill_unit(c: Cache, x: Translation, e: u32, unit: u64) -> Cache
+    ensures { λ r. ⌜ r ≡ unitFilled x e unit c ⌝ }
+{
+    if is_open(x) {
+        let entry = entry_of(x, e, unit);
+        atc::fill(c, entry)
+    } else {
+        atc::drop_unit(c, unit)
+    }
+}
+
+// A unit of the range that begins at `first`, where one of the payload's translations covers it.
+fn cover(c: Cache, first: u64, e: u32, before: u64, unit: u64, payload: &[u8]) -> Cache
+    requires { ⌜ first ≤ unit ⌝ }
+    ensures { λ r. ⌜ r ≡ covered first e before unit (now (payload .entry)) c ⌝ }
+{
+    let k = span::region_number(unit, e) - span::region_number(first, e);
+    if k < before {
+        return c;
+    }
+    if k - before < (payload.len() / 8) as u64 {
+        let x = tlp::translation_at(payload, (k - before) as usize);
+        fill_unit(c, x, e, unit)
+    } else {
+        c
+    }
+}
+
+// Unit j of a range, where the range has that many.
+fn cover_at(c: Cache, range: Range, stu: u8, e: u32, before: u64, j: u64, payload: &[u8]) -> Cache
+    requires { ⌜ j ≤ 15 ⌝ }
+    ensures { λ r. ⌜ r ≡ unitStep range stu e before (now (payload .entry)) j c ⌝ }
+{
+    let offset = j * span::unit_bytes(stu);
+    if 0xFFFF_FFFF_FFFF_FFFF - range.first < offset {
+        return c;
+    }
+    let unit = range.first + offset;
+    if range.last < unit {
+        return c;
+    }
+    cover(c, range.first, e, before, unit, payload)
+}
+
+// Every unit of the request's range that the payload covers, ascending.
+pub fn apply(c: Cache, t: Tr, stu: u8, payload: &[u8]) -> Cache
+    ensures { λ r. ⌜ r ≡ applied t stu (now (payload .entry)) c ⌝ }
+{
+    let range = tags::range_of(t, stu);
+    let size = size_of_all(t, payload);
+    let e = exponent(size);
+    let before = came(t);
+    let n = 1 + t.further as u64 % 16;
+    let mut next = c;
+    let mut j: u64 = 0;
+    while j < n {
+        next = cover_at(next, range, stu, e, before, j, payload);
+        j += 1;
+    }
+    next
+}
+
+// The request after a first packet of two.
+pub fn after_first(t: Tr, count: u16, payload: &[u8]) -> Tr
+    ensures { λ r. ⌜ r ≡ afterFirst t count (now (payload .entry)) ⌝ }
+{
+    let size = size_of_all(t, payload);
+    Tr {
+        address: t.address,
+        further: t.further,
+        stale: t.stale,
+        size: exponent(size),
+        whole: count,
+        due: rest(count, payload.len()),
+    }
+}
+
+fn rest(count: u16, bytes: usize) -> u16
+    ensures { λ r. ⌜ r ≡ count - bytes ⌝ }
+{
+    if (count as usize) < bytes {
+        0
+    } else {
+        count - bytes as u16
+    }
+}

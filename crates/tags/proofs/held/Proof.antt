@@ -1,0 +1,27 @@
+use Rattle.lemmas.specs.Cases.{cases}
+use Rattle.tags.specs.Tags.{heldAt}
+use borrow.Author.Needs.{needs}
+use Rattle.tags.proofs.held.Statement.{statement}
+use Rattle.tags.proofs.held.Tie as tie
+use Rattle.tags.proofs.held.Reads as reads
+use Rattle.tags.proofs.held.Lts as lts
+
+cast-i : tie.Need-cast-i
+cast-i c = search needs
+
+mul-p : tie.Need-mul-p
+mul-p c = search needs
+
+array-copy-out-p : tie.Need-array-copy-out-p
+array-copy-out-p c = search needs
+
+returns : tie.Need-returns
+unfolding heldAt
+returns c = search cases depth 12
+
+returns-2 : tie.Need-returns-2
+unfolding heldAt
+returns-2 c = search cases depth 12
+
+pub held-spec : {M : Type 1} → statement M
+held-spec = tie.close (tie.spec cast-i mul-p array-copy-out-p returns returns-2)

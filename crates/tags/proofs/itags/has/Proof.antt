@@ -1,0 +1,19 @@
+use Rattle.tags.specs.Itags.{isIn}
+use borrow.Author.Needs.{needs}
+use Rattle.tags.proofs.itags.has.Statement.{statement}
+use Rattle.tags.proofs.itags.has.Tie as tie
+use Rattle.tags.proofs.itags.has.Reads as reads
+use Rattle.tags.proofs.itags.has.Lts as lts
+
+cast-result : tie.Need-cast-result
+cast-result c = search needs
+
+shr-result : tie.Need-shr-result
+shr-result c = search needs
+
+returns : tie.Need-returns
+unfolding isIn
+returns c = search needs
+
+pub has-spec : {M : Type 1} → statement M
+has-spec = tie.close (tie.spec cast-result shr-result returns)

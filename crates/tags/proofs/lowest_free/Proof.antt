@@ -1,0 +1,73 @@
+use mathlib.Core.Path.{_≡_, sym, ap, _∙_}
+use Prim.Native.Nat.{ℕ, _+_, _-_, _≤_}
+use native.Mathlib.Omega.{arith}
+use lib.ListN.{length, drop}
+use Rattle.lemmas.specs.First.{firstAt, first-start, first-step, first-here, first-end}
+use Rattle.packet.specs.declared.Tag.{Tag}
+use Rattle.tags.specs.Tags.{freeAt, freeTag}
+use borrow.Author.Needs.{needs}
+use Rattle.tags.proofs.lowest_free.Statement.{statement}
+use Rattle.tags.proofs.lowest_free.Tie as tie
+use Rattle.tags.proofs.lowest_free.Reads as reads
+use Rattle.tags.proofs.lowest_free.Lts as lts
+use Rattle.tags.proofs.is_free.Reads as is-free-reads
+
+abbrev Inv-loop : tie.InvT-loop
+Inv-loop places i₀ i = (length places ≡ 32) × (i ≤ 32) × (firstAt freeAt places ≡ i + firstAt freeAt (drop i places))
+
+abbrev μ-loop : tie.MeasureT-loop
+μ-loop places i₀ i = 32 - i
+
+loop-holds : tie.Need-loop-holds Inv-loop μ-loop
+loop-holds c = (search needs, search needs, first-start _ _)
+
+mul-p : tie.Need-mul-p Inv-loop μ-loop
+mul-p c = search needs
+
+array-copy-out-p : tie.Need-array-copy-out-p Inv-loop μ-loop
+array-copy-out-p c = search needs
+
+is-free-requires : tie.Need-is-free-requires Inv-loop μ-loop
+is-free-requires c κs = search needs
+
+cast-t12 : tie.Need-cast-t12 Inv-loop μ-loop
+cast-t12 c = search needs
+
+returns : tie.Need-returns Inv-loop μ-loop
+unfolding freeTag
+returns c = ap (λ (n : ℕ). record { 0 = n }) (first-here _ _ _ _ (omega arith) (sym (c .before .is-free .ensures) ∙ c .if1 .taken) (c .before .before .before .before .loop .inv .2))
+
+add-i : tie.Need-add-i Inv-loop μ-loop
+add-i c = search needs
+
+loop-less : tie.Need-loop-less Inv-loop μ-loop
+loop-less c = search needs
+
+loop-again : tie.Need-loop-again Inv-loop μ-loop
+loop-again c = let inv = c .before .before .before .before .loop .inv in
+    (inv .0, search needs, first-step _ _ _ _ (omega arith) (sym (c .before .is-free .ensures) ∙ c .if1 .left) (inv .2))
+
+cast-t13 : tie.Need-cast-t13 Inv-loop μ-loop
+cast-t13 c = search needs
+
+returns-2 : tie.Need-returns-2 Inv-loop μ-loop
+unfolding freeTag
+returns-2 c = ap (λ (n : ℕ). record { 0 = n }) (first-end _ _ _ (omega arith) (c .before .loop .inv .2))
+
+pub lowest-free-spec : {M : Type 1} → statement M
+lowest-free-spec =
+    tie.close
+    (tie.spec
+    Inv-loop
+    μ-loop
+    loop-holds
+    mul-p
+    array-copy-out-p
+    is-free-requires
+    cast-t12
+    returns
+    add-i
+    loop-less
+    loop-again
+    cast-t13
+    returns-2)

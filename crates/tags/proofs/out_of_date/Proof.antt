@@ -1,0 +1,32 @@
+use borrow.Author.Needs.{needs}
+use Rattle.tags.proofs.out_of_date.Statement.{statement}
+use Rattle.tags.proofs.out_of_date.Tie as tie
+use Rattle.tags.proofs.out_of_date.Reads as reads
+use Rattle.tags.proofs.out_of_date.Lts as lts
+use Rattle.tags.proofs.stale.Reads as stale-reads
+
+enum-told : tie.Need-enum-told
+enum-told c = search needs
+
+enum-known-o : tie.Need-enum-known-o
+enum-known-o c = search needs
+
+stale-requires : tie.Need-stale-requires
+stale-requires c κs = search needs
+
+enum-told-2 : tie.Need-enum-told-2
+enum-told-2 c = search needs
+
+returns : tie.Need-returns
+returns c = search needs
+
+returns-2 : tie.Need-returns-2
+returns-2 c = rw (c .before .before .o .given .1, c .stale .ensures)
+
+returns-3 : tie.Need-returns-3
+returns-3 c = search needs
+
+pub out-of-date-spec : {M : Type 1} → statement M
+out-of-date-spec =
+    tie.close
+    (tie.spec enum-told enum-known-o stale-requires enum-told-2 returns returns-2 returns-3)

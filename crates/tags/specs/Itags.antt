@@ -1,0 +1,21 @@
+-- Sets of ITags as vectors, ITag 0 in the lowest bit.
+use mathlib.Core.Bool.{Bool}
+use Prim.Native.Nat.{ℕ, _-_, _/_, _%_, _^_}
+use lib.Dec.{eqb}
+use lib.Bits.{bitAnd, bitOr}
+use Rattle.packet.specs.declared.ITag.{ITag}
+
+-- the bit of an ITag, which has five bits itself
+abbrev pub place : ITag → ℕ
+place itag = itag .0 % 32
+
+unfoldable pub isIn : ℕ → ITag → Bool
+isIn v itag = eqb (v / 2 ^ place itag % 2) 1
+
+-- v and the ITag
+unfoldable pub joined : ℕ → ITag → ℕ
+joined v itag = bitOr v (2 ^ place itag)
+
+-- those of v that are not among the others
+unfoldable pub without : ℕ → ℕ → ℕ
+without v others = v - bitAnd v others

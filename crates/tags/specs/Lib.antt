@@ -1,0 +1,2 @@
+pub mod Itags
+pub mod Tags

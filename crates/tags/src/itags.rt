@@ -1,0 +1,22 @@
+// Sets of ITags as vectors, ITag 0 in the lowest bit. An ITag has five bits.
+use packet::ITag;
+ghost use mathlib.Core.Path.{_≡_};
+ghost use Rattle.tags.specs.Itags.{isIn, joined, without};
+
+pub fn has(v: u32, itag: ITag) -> bool
+    ensures { λ r. ⌜ r ≡ isIn v itag ⌝ }
+{
+    (v >> (itag.0 % 32)) % 2 == 1
+}
+
+pub fn with(v: u32, itag: ITag) -> u32
+    ensures { λ r. ⌜ r ≡ joined v itag ⌝ }
+{
+    v | 1u32 << (itag.0 % 32)
+}
+
+pub fn without(v: u32, others: u32) -> u32
+    ensures { λ r. ⌜ r ≡ without v others ⌝ }
+{
+    v - (v & others)
+}

@@ -1,0 +1,10 @@
+-- The translations that a payload holds.
+use mathlib.Core.List.{List}
+use Prim.Native.Nat.{ℕ}
+use Rattle.packet.specs.Reading.{wordAt}
+use Rattle.span.specs.declared.Translation.{Translation}
+use Rattle.span.specs.Size.{translationOf}
+
+-- translation k
+unfoldable pub translationAt : List ℕ → ℕ → Translation
+translationAt payload k = translationOf (wordAt payload k)

@@ -1,14 +1,17 @@
 """What each kind of test file asks, one line in, one line out.
 
-    python3 drivers.py reading|writing|sizes < stdin > stdout
+    python3 drivers.py reading|writing|sizes|calls < stdin > stdout
 
 reading: a packet in hex -> its field record and the packet written again.
 writing: a field record -> the packet. sizes: an 8-byte word -> base, log2 of
-the size, N U W R. A refusal is BAD and its number.
+the size, N U W R. A refusal is BAD and its number. calls: a call of the
+Function -> what it answers, sends and becomes (calls.py tells the form); the
+lines are given one after another to the same Function, new at the first.
 """
 
 import sys
 
+import calls
 import listing
 import packets
 import records
@@ -50,7 +53,9 @@ def sizes(line):
     return "%016X\t%d\t%s" % (got[0], got[1], flags)
 
 
-DRIVERS = {"reading": reading, "writing": writing, "sizes": sizes}
+# The last one has a state: the Function that its lines are given to.
+DRIVERS = {"reading": reading, "writing": writing, "sizes": sizes,
+           "calls": calls.Script().answer}
 
 if __name__ == "__main__":
     drive = DRIVERS[sys.argv[1]]

@@ -1,9 +1,11 @@
 """Write the test files: python3 generate.py DIR
 
-Makes listing, reading, writing and sizes, each a .stdin and a .stdout, the
-same bytes each time. Every case made to show a certain number is checked to
-show it; size-codes.tsv is checked row by row. Prints how often each number
-and kind came up and exits with 1 if one that can occur never did.
+Makes listing, reading, writing, sizes and calls, each a .stdin and a .stdout,
+the same bytes each time. Every case made to show a certain number is checked
+to show it; size-codes.tsv is checked row by row; the fixed scripts of calls
+are checked step by step. Prints how often each number and kind came up and,
+for the calls, each number and answer; exits with 1 if one that can occur
+never did, or one that cannot did.
 """
 
 import io
@@ -12,12 +14,15 @@ import sys
 
 sys.dont_write_bytecode = True
 
+import calls
+import cases_calls
 import cases_listing
 import cases_reading
 import cases_sizes
 import cases_writing
 import drivers
 import listing
+import reached
 import records
 from rng import Rng
 
@@ -26,7 +31,8 @@ CANNOT = (("IC", "4"),)
 NUMBERS = {"listing": ("ok", "0", "1", "2", "3", "4"),
            "reading": ("ok", "0", "1", "2", "3", "4"),
            "writing": ("ok", "12", "4", "17")}
-LARGEST = 400 * 1000
+LARGEST = {"listing": 400, "reading": 400, "writing": 400, "sizes": 400,
+           "calls": 900}        # thousand bytes
 
 
 def check(want, got, line):
@@ -74,6 +80,26 @@ def make_sizes(rng):
     return b"".join(asked), b"".join(answered)
 
 
+def make_calls(rng, tally):
+    """(stdin, stdout) of the calls, played once more from the lines alone."""
+    asked, answered = [], []
+    script = calls.Script()
+    for line, want in cases_calls.cases(rng):
+        before = script.function.copy()
+        text = script.answer(line)
+        check(want, text, line)
+        asked.append(line + b"\n")
+        answered.append(text.encode("ascii") + b"\n")
+        data = bytes.fromhex(line.decode("ascii"))
+        if calls.parse(data)[0] == "show":
+            continue
+        answer = text.split("\t")[0]
+        if answer[0] == "R" and vars(before) != vars(script.function):
+            raise AssertionError("refused, but changed: %r" % line)
+        tally.add(before, script.function, data, answer)
+    return b"".join(asked), b"".join(answered)
+
+
 def show(counts, totals):
     """Print the table; the list of what is missing."""
     missing = []
@@ -96,7 +122,7 @@ def show(counts, totals):
 
 def main(directory):
     """Write all files; the exit status."""
-    counts, files = {}, {}
+    counts, files, tally = {}, {}, reached.Tally()
     files["listing"] = make("listing", cases_listing.cases(Rng(1)),
                             listing.row, counts)
     # The last line of the listing's input has no line feed.
@@ -106,6 +132,7 @@ def main(directory):
     files["writing"] = make("writing", cases_writing.cases(Rng(3)),
                             lambda _, line: drivers.writing(line), counts)
     files["sizes"] = make_sizes(Rng(4))
+    files["calls"] = make_calls(Rng(5), tally)
 
     # The stream form of the listing must say the same, in blocks of any size.
     for block in (1, 7, 4096):
@@ -120,16 +147,20 @@ def main(directory):
     totals = {}
     for name, (asked, answered) in files.items():
         for data, suffix in ((asked, "stdin"), (answered, "stdout")):
-            if len(data) > LARGEST:
+            if len(data) > 1000 * LARGEST[name]:
                 raise AssertionError("%s.%s is too large" % (name, suffix))
             with open(os.path.join(directory, name + "." + suffix),
                       "wb") as out:
                 out.write(data)
         totals[name] = answered.count(b"\n"), len(asked), len(answered)
     missing = show(counts, totals)
-    for name, kind, number in missing:
-        print("never seen: %s, %s, %s" % (name, kind, number))
-    return 1 if missing else 0
+    for line in tally.table():
+        print(line)
+    faults = ["never seen: %s, %s, %s" % cell for cell in missing]
+    faults += tally.faults()
+    for line in faults:
+        print(line)
+    return 1 if faults else 0
 
 
 if __name__ == "__main__":

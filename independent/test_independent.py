@@ -1,8 +1,10 @@
 """Self-checks: python3 test_independent.py
 
-The examples 1, 2, 6 and 7 and the listing's example of document 01, packets
-worked out by hand from its table, and round trips both ways, where what is
-left of a packet is told by the masks and not by the writer.
+The examples and the listing's example of document 01, packets worked out by
+hand from its table, and round trips both ways, where what is left of a packet
+is told by the masks and not by the writer. For the Function: examples 3, 4, 5,
+8 and 9, cases worked out by hand, the form of its scripts, and that no refused
+call changes anything.
 """
 
 import io
@@ -10,14 +12,19 @@ import sys
 
 sys.dont_write_bytecode = True
 
+import calls
 import cases_reading
 import cases_writing
 import drivers
 import listing
 import masks
 import packets
+import reached
 import records
 import samples
+import scripts_calls
+from function import (OFF, ON, STOPPED, Entry, Function, Group, OpenRead,
+                      OpenTr, Outcome)
 from packets import (Cpl, CplData, Ic, Inv, MemRead, MemWrite, Prq, Prs, Tr,
                      read, size, write)
 from rng import Rng
@@ -170,7 +177,404 @@ def lines():
          "0000000000002000\t13\t1101")
 
 
-for part in (examples, by_hand, over_long, round_trips, lines):
+# --- the Function ---------------------------------------------------------
+
+US, AGENT = 0x0100, 0x0008
+
+
+def ready(stu=0, rcb=64):
+    """A Function that is enabled."""
+    f = Function()
+    same("reset", f.reset(US, stu, rcb), Outcome("done"))
+    same("enable", f.enable(), Outcome("done"))
+    return f
+
+
+def reply(f, tag, words, count=None, lower=None):
+    """Translations for a TR; ending at the RCB unless told otherwise."""
+    data = b"".join(word.to_bytes(8, "big") for word in words)
+    count = len(data) if count is None else count
+    lower = -len(data) % f.rcb if lower is None else lower
+    fields = CplData(0, AGENT, len(data) // 4, count, f.id, tag, lower)
+    got = f.receive(write(fields, data, 144))
+    return got if isinstance(got, int) else got.answer
+
+
+def give(f, fields, payload=b""):
+    """Receive a packet of these fields."""
+    got = f.receive(write(fields, payload, 144))
+    return got if isinstance(got, int) else got.answer
+
+
+def cached(f, address, *words):
+    """Ask for units and fill them."""
+    tag = f.ask(address, len(words), 0, 200).number
+    same("filled", reply(f, tag, words), "filled")
+
+
+def inv(f, itag, body, sender=AGENT):
+    """Receive an Invalidate Request."""
+    return give(f, Inv(0, sender, itag, f.id, body & ~0xFFF, body >> 11 & 1))
+
+
+def entries(f):
+    """The slots in use, by slot."""
+    return {slot: e for slot, e in enumerate(f.slots) if e}
+
+
+def units(f):
+    """The cached units, ascending."""
+    return sorted(e.unit for e in f.slots if e)
+
+
+def function_examples():
+    """Examples 3, 4, 5, 7, 8 and 9."""
+    f = ready(stu=1)
+    cached(f, 0, 0x80803, 0x90803, 0xA0803)
+    same("3 before", units(f), [0, 0x2000, 0x4000])
+    same("3", inv(f, 0, 0x3000), "done")
+    same("3 after", units(f), [0, 0x4000])
+
+    f = ready()
+    got = f.ask(0x203000, 1, 0, 12)
+    same("4 ask", got, Outcome("tag", 0, bytes.fromhex(
+        "00000402 010000FF 00203000")))
+    same("4 reply", reply(f, 0, [0x400FF803]), "filled")
+    same("4 entry", entries(f), {0: Entry(0x203000, 0x40003000, 1, 1, 0, 0)})
+    same("4 beside", f.read(0x204000, 1, b"", 200), 13)
+    same("4 read", f.read(0x203000, 1, b"", 200).packet.hex(),
+         "000008010100000f40003000")
+
+    f = ready(stu=2)
+    f.ask(0x00000FFFFFFFC000, 2, 0, 200)
+    f.ask(0x00000FFFFFFFC000, 1, 0, 200)
+    same("5", inv(f, 0, 0x0000100000001800), "done")
+    same("5 stale", [f.tags[0].stale, f.tags[1].stale], [True, False])
+    same("5 reply", reply(f, 0, [0x41803, 0x81803]), "discarded")
+    same("5 nothing", units(f), [])
+
+    f = ready()
+    f.pages_on(1)
+    same("7", f.page_request(0x203000, 3, 1, 0, 1, 16), Outcome(
+        "done", packet=bytes.fromhex("30000000 01000004 00000000 0020301D")))
+
+    for stu in (0, 5, 31):
+        f = ready(stu)
+        last = (1 << 64) - (4096 << stu)
+        same("8 one", f.ask(last, 1, 0, 16).answer, "tag")
+        same("8 two", f.ask(last, 2, 0, 16), 12)
+        same("8 two before", f.ask(last - 1, 2, 0, 16).answer, "tag")
+
+    f = ready()
+    same("9", f.ask(0, 9, 0, 200), 12)
+    same("9 all", [f.ask(0, 8, 0, 200).number for _ in range(32)],
+         list(range(32)))
+    same("9 33rd", f.ask(0, 1, 0, 200), 11)
+
+
+def new_and_reset():
+    """What a new Function is, and what a reset takes."""
+    f = Function()
+    same("new", vars(f), vars(Function()))
+    same("new id", (f.id, f.stu, f.rcb, f.enabled, f.agent, f.hand),
+         (0, 0, 64, False, None, 0))
+    same("new is reset", f.reset(0, 0, 64), Outcome("done"))
+    same("new is reset, state", vars(f), vars(Function()))
+    f = ready(rcb=128)
+    cached(f, 0x5000, 0x9003)
+    f.ask(0, 1, 0, 200)
+    f.pages_on(7)
+    inv(f, 3, 0x7000)
+    before = vars(f.copy())
+    for bad in ((0, 32, 64), (0, 255, 64), (0, 0, 0), (0, 0, 65), (0, 0, 63),
+                (0, 0, 192), (0, 32, 0), (1 << 16, 0, 64)):
+        same("bad reset", f.reset(*bad), 12)
+        same("bad reset, state", vars(f), before)
+    same("good reset", f.reset(0xFFFF, 31, 128), Outcome("done"))
+    fresh = Function()
+    fresh.id, fresh.stu, fresh.rcb = 0xFFFF, 31, 128
+    same("good reset, state", vars(f), vars(fresh))
+
+
+def switches():
+    """Enable and disable."""
+    f = ready()
+    cached(f, 0x5000, 0x9003)
+    f.ask(0x6000, 1, 0, 200)
+    before = vars(f.copy())
+    f.enable()
+    same("enable again", vars(f), before)
+    f.disable()
+    f.disable()
+    same("entries stay", units(f), [0x5000])
+    same("TR stays", f.tags[0], OpenTr(0x6000, 1))
+    same("E clear", f.read(0x5000, 1, b"", 200), 6)
+    f.hand = 9
+    f.enable()
+    same("emptied", (units(f), f.tags[0].stale, f.hand), ([], True, 9))
+    same("stale", reply(f, 0, [0x9003]), "discarded")
+    f.ask(0x6000, 1, 0, 200)
+    same("switched off", give(f, Cpl(0, 0, 1, 0, US, 0, 0)), "switched off")
+    same("E", f.enabled, False)
+
+
+def fills():
+    """Slots, the hand, large pages, R = W = 0, U."""
+    f = ready()
+    for i in range(4):
+        cached(f, 0x8000 * i, *[0x100000 + 0x1000 * k + 3 for k in range(8)])
+    same("32 units", [e.unit for e in f.slots],
+         [0x1000 * i for i in range(32)])
+    same("hand unused", f.hand, 0)
+    cached(f, 0x3000, 0xFF000 | 1)
+    same("same unit", f.slots[3], Entry(0x3000, 0xFF000, 1, 0, 0, 0))
+    same("hand unused yet", f.hand, 0)
+    cached(f, 0x40000, 0x9003)
+    same("hand", (f.slots[0].unit, f.hand), (0x40000, 1))
+    f.hand = (1 << 32) - 1
+    cached(f, 0x41000, 0x9003, 0xA003)
+    same("hand passes to 0", (f.slots[31].unit, f.slots[0].unit, f.hand),
+         (0x41000, 0x42000, 1))
+    inv(f, 0, 0x6000)
+    inv(f, 1, 0x5000)
+    cached(f, 0x43000, 0x9003)
+    same("lowest free", (f.slots[5].unit, f.slots[6], f.hand),
+         (0x43000, None, 1))
+
+    f = ready(stu=1)
+    f.ask(0x6FFF, 3, 1, 200)                # 6000h, 8000h, A000h
+    # 16 KiB regions from 4000h: the second one holds 8000h and A000h.
+    same("two regions", reply(f, 0, [0x51C01, 0x61802]), "filled")
+    same("units", entries(f), {
+        0: Entry(0x6000, 0x52000, 1, 0, 1, 0),
+        1: Entry(0x8000, 0x60000, 0, 1, 0, 0),
+        2: Entry(0xA000, 0x62000, 0, 1, 0, 0)})
+    f.ask(0x6000, 2, 0, 200)
+    same("hole", reply(f, 0, [0x70800, 0x80C05]), "filled")
+    same("hole deletes", entries(f), {
+        1: Entry(0x8000, 0, 1, 0, 1, 1),
+        2: Entry(0xA000, 0x62000, 0, 1, 0, 0)})
+    f.ask(0x6000, 1, 0, 200)
+    same("all there is", reply(f, 0, [0x7FFFFFFFFFFFF803]), "filled")
+    same("to itself", f.slots[0], Entry(0x6000, 0x6000, 1, 1, 0, 0))
+
+
+def two_packets():
+    """First and second packets and what is remembered between them."""
+    f = ready()
+    f.ask(0x5678, 3, 0, 200)
+    same("greater, off", reply(f, 0, [0x9003], 16, 0), 8)
+    same("not of 8", reply(f, 0, [0x9003], 12), 8)
+    same("above 8N", reply(f, 0, [0x9003], 32), 8)
+    same("below", reply(f, 0, [0x9003, 0xA003], 8), 8)
+    same("untouched", f.tags[0], OpenTr(0x5678, 3))
+    same("first", reply(f, 0, [0x9003, 0xA000], 24), "more")
+    same("kept", f.tags[0], OpenTr(0x5678, 3, False, 12, 2, 8))
+    same("in", units(f), [0x5000])
+    same("other size", reply(f, 0, [0xA803], lower=0), 8)
+    same("Lower Address", reply(f, 0, [0xA003], lower=64), 8)
+    same("too many", reply(f, 0, [0xA003, 0xA003], lower=0), 8)
+    same("count", reply(f, 0, [0xA003], 16, 0), 8)
+    same("second", reply(f, 0, [0xB003], lower=0), "filled")
+    same("both in", entries(f), {0: Entry(0x5000, 0x9000, 1, 1, 0, 0),
+                                 1: Entry(0x7000, 0xB000, 1, 1, 0, 0)})
+    same("freed", f.tags[0], None)
+    f.ask(0x5000, 2, 0, 200)
+    same("only, off", reply(f, 0, [0xFFFFFFFFFFFFF803], lower=0), "discarded")
+    same("freed too", f.tags[0], None)
+    f.ask(0x5000, 2, 0, 200)
+    same("no size", reply(f, 0, [0xFFFFFFFFFFFFF803]), 8)
+    same("8 KiB at 4000h ends at 6000h", reply(f, 0, [0x8803], 16), "more")
+    f.disable()
+    same("aborted", give(f, Cpl(0, 0, 4, 0, US, 0, 0)), "aborted")
+    same("first stays", f.slots[0], Entry(0x5000, 0x9000, 1, 1, 0, 0))
+    f = ready(stu=1)
+    f.ask(0x5000, 2, 0, 200)
+    same("below the unit", reply(f, 0, [0x9003]), 8)
+    same("past the range", reply(f, 0, [0x9803, 0x9803]), 8)
+
+
+def reads_and_itags():
+    """Reads, what INV notes, drains."""
+    f = ready()
+    cached(f, 0x5000, 0x9003, 0xA007)
+    same("read", f.read(0x5FF8, 2, b"", 12).packet.hex(),
+         "00000802010000ff00009ff8")
+    same("U", f.read(0x6010, 1, b"", 12).packet.hex(),
+         "000000010100010f00006010")
+    same("write", f.write(0x5000, 1, b"abcd", 16).packet.hex(),
+         "400008010100000f0000900061626364")
+    same("tags", f.tags[:3], [OpenRead(0x5FF8, 8, 8, 1),
+                              OpenRead(0x6010, 4, 4, 0), None])
+    same("sent address", inv(f, 1, 0x9000), "done")
+    same("asked address", inv(f, 2, 0x5000), "done")
+    same("AT 00", inv(f, 3, 0x6000), "done")
+    same("twice", inv(f, 2, 0x5000), 9)
+    same("other agent", inv(f, 2, 0x5000, AGENT + 1), 10)
+    same("noted", f.tags[0], OpenRead(0x5FF8, 8, 8, 1, frozenset([2])))
+    same("none noted", f.tags[1].itags, frozenset())
+    same("short", f.drain(15), 17)
+    same("drain", f.drain(16), Outcome("count", 2, bytes.fromhex(
+        "32000000 01000002 00080001 0000000A")))
+    same("held", f.drain(0), Outcome("count", 0))
+    data = CplData(0, 0, 1, 8, US, 0, 0x7C)
+    same("part", f.receive(write(data, b"1234", 144)),
+         Outcome("payload, more", payload=b"1234"))
+    same("due", f.tags[0], OpenRead(0x5FF8, 8, 4, 1, frozenset([2])))
+    same("old count", f.receive(write(data, b"1234", 144)), 8)
+    same("still held", f.drain(16), Outcome("count", 0))
+    data = CplData(0, 0, 1, 4, US, 0, 0)
+    same("rest", f.receive(write(data, b"5678", 144)),
+         Outcome("payload, last", payload=b"5678"))
+    same("at last", f.drain(16).packet[12:], bytes.fromhex("00000004"))
+    same("read failed", give(f, Cpl(0, 0, 1, 0, US, 1, 0)), "read failed")
+    same("E stays", f.enabled, True)
+    same("no tag", give(f, Cpl(0, 0, 1, 0, US, 1, 0)), 7)
+    same("tag 32", give(f, Cpl(0, 0, 1, 0, US, 32, 0)), 7)
+
+
+def page_groups():
+    """Credits, groups, responses."""
+    f = Function()
+    f.reset(US, 0, 64)
+
+    def ask(index, l):
+        got = f.page_request(0x1000, index, l, 0, 1, 16)
+        return got if isinstance(got, int) else got.answer
+
+    def answer(index, code):
+        return give(f, Prs(0, AGENT, US, code, index))
+
+    same("off", (ask(0, 1), answer(0, 0), answer(0, 15)), (15, 7, 7))
+    same("on", (f.pages_on(0), f.pages_on(513), f.pages_on(3),
+                f.pages_on(3)), (12, 12, Outcome("done"), 12))
+    same("asks", (ask(4, 0), ask(4, 1), ask(4, 0), ask(5, 0), ask(6, 0)),
+         ("done", "done", 16, "done", 16))
+    same("groups", f.groups[4:7], [Group(2, True), Group(1, False), Group()])
+    same("answers", (answer(5, 0), answer(6, 0), answer(32, 1),
+                     answer(4, 1)), (7, 7, 7, "done"))
+    same("credits", (f.credits, f.groups[4]), (2, Group()))
+    same("R = W = 0", f.page_request(0x1000, 0, 1, 0, 0, 16), 12)
+    same("not a page", f.page_request(0x1800, 0, 1, 0, 1, 16), 12)
+    same("index", f.page_request(0x1000, 32, 1, 0, 1, 16), 12)
+    f.pages_off()
+    same("off again", (f.pages, f.groups), (OFF, [Group()] * 32))
+    f.pages_on(1)
+    same("whole", (f.pages, f.credits), (ON, 1))
+    same("failure", (answer(511, 2), f.pages), ("done", STOPPED))
+    f.pages_off()
+    same("stopped", (f.pages, f.pages_on(1), f.pages_on(0), ask(0, 1),
+                     answer(0, 0)), (STOPPED, 15, 15, 15, 7))
+    f.reset(US, 0, 64)
+    same("after reset", (f.pages, f.pages_on(1)), (OFF, Outcome("done")))
+
+
+def rich():
+    """A Function with something in every table."""
+    f = ready(stu=1, rcb=128)
+    cached(f, 0x2000, 0x90C03)
+    cached(f, 0xC000, 0x70807)
+    f.read(0x3FFC, 1, b"", 200)
+    f.ask(0x5FFF, 3, 0, 200)
+    same("first", reply(f, 1, [0x80800], 24), "more")
+    same("inv", inv(f, 4, 0x2000), "done")
+    f.pages_on(5)
+    f.page_request(0x7000, 2, 1, 0, 1, 200)
+    return f
+
+
+STATE = ("0100 01 80 01 01 0008 00000000"
+         "00 01 000000000000C000 0000000000000000 0B" + "00" * 30
+         + "02 0000000000003FFC 0004 0004 01 00000010"
+         "01 0000000000005FFF 03 00 0D 01 0010" + "00" * 30
+         + "00000010 01 0005 0004 000000 000000 000101" + "000000" * 29)
+
+
+def script_form():
+    """Records, answer lines, the bytes of the state."""
+    same("new state", calls.state(Function()).hex(),
+         "00000040" + "00" * 8 + "00" * 64 + "00" * 5)
+    same("state", calls.state(rich()), bytes.fromhex(STATE))
+    for data, want in ((b"", "00000000"), (b"\0", "00000001"),
+                       (b"\0\0", "00000102"), (b"\xFF", "00000100"),
+                       (b"\xFF" * 4, "04060405")):
+        same("digest", calls.digest(data), want)
+    same("record", calls.record("ask", 200, 0x203000, 1, 1).hex(),
+         "0300c80000000000203000000101")
+    same("parse", calls.parse(bytes.fromhex(
+        "05000C 0000000000005000 0001 01020304")), (
+            "write", {"room": 12, "address": 0x5000, "words": 1},
+            b"\1\2\3\4"))
+    for text in ("", "0B", "0101", "0300C8", "0700", "070000FF",
+                 "0300C80000000000203000000102", "06" + "00" * 256,
+                 "0A00C800000000000000000000" + "08"):
+        try:
+            calls.parse(bytes.fromhex(text))
+            same("taken " + text, True, False)
+        except ValueError:
+            same("not a record", True, True)
+    script = calls.Script()
+    script.function = rich()
+    after = rich()
+    after.slots[1] = Entry(0xC000, 0x8000, 1, 1, 0, 0)
+    script.function.slots[1] = after.slots[1]
+    line = calls.record("write", 30, 0xC000, 1, rest=b"\x00\xA5\x01\xA5")
+    same("trailing A5h", script.run(line), "D\t16\t"
+         "400008010100000F0000800000A501\t\t"
+         + calls.digest(calls.state(after)))
+    line = calls.record("write", 15, 0xC000, 1, rest=b"\x00\xA5\x01\xA5")
+    same("refused", script.run(line).split("\t")[:4], ["R17", "0", "", ""])
+    same("show", script.answer(b"0F"), calls.state(after).hex().upper())
+    same("driver", drivers.DRIVERS["calls"](b"0700C8"),
+         "C0\t0\t\t\t" + calls.digest(calls.state(Function())))
+    for line in (b"0f", b"0F ", b" 0F", b"", b"0", b"0G"):
+        try:
+            script.answer(line)
+            same("taken %r" % line, True, False)
+        except ValueError:
+            same("not hex", True, True)
+
+
+def refusals():
+    """No refused call changes anything; the fixed scripts."""
+    script = calls.Script()
+    for title, steps in scripts_calls.SCRIPTS:
+        for step in steps:
+            before = script.function.copy()
+            text = scripts_calls.check(script, title, step)
+            if text[0] == "R":
+                same(title, vars(script.function), vars(before))
+                same(title, text.split("\t")[1:4], ["0", "", ""])
+    f = rich()
+    before = f.copy()
+    f.disable()
+    f.reset(1, 1, 64)
+    same("a copy is another", vars(before), vars(rich()))
+
+
+def rows():
+    """The rows and columns of the table of calls."""
+    f = rich()
+    for text, want in (("0A000000 00080004 01000000", "CPL for read"),
+                       ("4A000000 00080004 01000100", "CPL for TR"),
+                       ("0A000000 00080004 01000200", "CPL, no tag"),
+                       ("0A000000 00080004 01002000", "CPL, no tag"),
+                       ("0A000000 00080004 010000", "other"),
+                       ("72000002 00080501 01000000", "INV"),
+                       ("72000002 00080502 01000000", "other"),
+                       ("32000000 00080005 01000000", "PRS"),
+                       ("32000000 00080002 01000000", "other"), ("", "other")):
+        same("row", reached.row_of(f, "receive", bytes.fromhex(text)), want)
+    same("columns", [reached.cell_of(a) for a in ("R12", "T31", "C0", "C10",
+                                                  "D", "X")],
+         ["12", "T", "C0", "C", "D", "X"])
+    same("rows", list(reached.REACHABLE), [row for row in reached.REACHABLE
+                                           if row in reached.SITUATIONS])
+
+
+for part in (examples, by_hand, over_long, round_trips, lines,
+             function_examples, new_and_reset, switches, fills, two_packets,
+             reads_and_itags, page_groups, script_form, refusals, rows):
     part()
 for text in failed[:20]:
     print(text)

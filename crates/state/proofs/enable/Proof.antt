@@ -1,0 +1,42 @@
+use Rattle.state.specs.Ends.{end-take, end-skip}
+use mathlib.Core.Path.{refl}
+use Rattle.state.specs.Switches.{enabling}
+use borrow.Author.Needs.{needs}
+use Rattle.state.proofs.enable.Statement.{statement}
+use Rattle.state.proofs.enable.Tie as tie
+use Rattle.state.proofs.enable.Reads as reads
+use Rattle.state.proofs.enable.Lts as lts
+use Rattle.atc.proofs.empty.Reads as empty-reads
+use Rattle.state.proofs.answered.Reads as answered-reads
+use Rattle.tags.proofs.stale_all.Reads as stale-all-reads
+
+answered-requires : tie.Need-answered-requires
+answered-requires c κs = search needs
+
+returns : tie.Need-returns
+unfolding enabling
+returns c = rw (c .answered .ensures) (end-take _ _ _ _ _ _ (c .before .if1 .taken) refl)
+
+empty-requires : tie.Need-empty-requires
+empty-requires c κs = search needs
+
+stale-all-requires : tie.Need-stale-all-requires
+stale-all-requires c κs = search needs
+
+answered-requires-2 : tie.Need-answered-requires-2
+answered-requires-2 c κs = search needs
+
+returns-2 : tie.Need-returns-2
+unfolding enabling
+returns-2 c = rw (c .answered2 .ensures, c .before .stale-all .ensures, c .before .before .empty .ensures) (end-skip _ _ _ _ _ _ (c .before .before .before .before .if1 .left) refl)
+
+pub enable-spec : {M : Type 1} → statement M
+enable-spec =
+    tie.close
+    (tie.spec
+    answered-requires
+    returns
+    empty-requires
+    stale-all-requires
+    answered-requires-2
+    returns-2)

@@ -1,0 +1,23 @@
+use borrow.Author.Needs.{needs}
+use Rattle.state.proofs.fresh_function.Statement.{statement}
+use Rattle.state.proofs.fresh_function.Tie as tie
+use Rattle.state.proofs.fresh_function.Reads as reads
+use Rattle.state.proofs.fresh_function.Lts as lts
+use Rattle.atc.proofs.empty.Reads as empty-reads
+use Rattle.pages.proofs.off.Reads as off-reads
+use Rattle.tags.proofs.all_free.Reads as all-free-reads
+
+empty-requires : tie.Need-empty-requires
+empty-requires c κs = search needs
+
+all-free-requires : tie.Need-all-free-requires
+all-free-requires c κs = search needs
+
+off-requires : tie.Need-off-requires
+off-requires c κs = search needs
+
+returns : tie.Need-returns
+returns c = rw (c .off .ensures, c .before .all-free .ensures, c .before .before .empty .ensures)
+
+pub fresh-function-spec : {M : Type 1} → statement M
+fresh-function-spec = tie.close (tie.spec empty-requires all-free-requires off-requires returns)

@@ -1,0 +1,14 @@
+use Rattle.lemmas.specs.Cases.{cases}
+use Rattle.state.proofs.rcb_of.Statement.{statement}
+use Rattle.state.proofs.rcb_of.Tie as tie
+use Rattle.state.proofs.rcb_of.Reads as reads
+use Rattle.state.proofs.rcb_of.Lts as lts
+
+returns : tie.Need-returns
+returns c = search cases depth 12
+
+returns-2 : tie.Need-returns-2
+returns-2 c = search cases depth 12
+
+pub rcb-of-spec : {M : Type 1} → statement M
+rcb-of-spec = tie.close (tie.spec returns returns-2)

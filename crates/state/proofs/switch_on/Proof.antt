@@ -1,0 +1,48 @@
+use Rattle.state.specs.Ends.{end-take, end-skip}
+use mathlib.Core.Path.{refl, sym, _∙_}
+use Rattle.state.specs.Switches.{switchingOn}
+use borrow.Author.Needs.{needs}
+use Rattle.state.proofs.switch_on.Statement.{statement}
+use Rattle.state.proofs.switch_on.Tie as tie
+use Rattle.state.proofs.switch_on.Reads as reads
+use Rattle.state.proofs.switch_on.Lts as lts
+use Rattle.pages.proofs.on.Reads as on-reads
+use Rattle.state.proofs.answered.Reads as answered-reads
+use Rattle.state.proofs.is_granted.Reads as is-granted-reads
+use Rattle.state.proofs.refused.Reads as refused-reads
+use Rattle.state.proofs.with_pages.Reads as with-pages-reads
+
+is-granted-requires : tie.Need-is-granted-requires
+is-granted-requires c κs = search needs
+
+on-requires : tie.Need-on-requires
+on-requires c κs = search needs
+
+with-pages-requires : tie.Need-with-pages-requires
+with-pages-requires c κs = search needs
+
+answered-requires : tie.Need-answered-requires
+answered-requires c κs = search needs
+
+refused-requires : tie.Need-refused-requires
+refused-requires c κs = search needs
+
+returns : tie.Need-returns
+unfolding switchingOn
+returns c = rw (c .answered .ensures, c .before .with-pages .ensures, c .before .before .on .ensures) (end-take _ _ _ _ _ _ (sym (c .before .before .before .before .is-granted .ensures) ∙ c .before .before .before .if1 .taken) refl)
+
+returns-2 : tie.Need-returns-2
+unfolding switchingOn
+returns-2 c = rw (c .refused .ensures) (end-skip _ _ _ _ _ _ (sym (c .before .before .is-granted .ensures) ∙ c .before .if1 .left) refl)
+
+pub switch-on-spec : {M : Type 1} → statement M
+switch-on-spec =
+    tie.close
+    (tie.spec
+    is-granted-requires
+    on-requires
+    with-pages-requires
+    answered-requires
+    refused-requires
+    returns
+    returns-2)

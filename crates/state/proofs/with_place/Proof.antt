@@ -1,0 +1,15 @@
+use borrow.Author.Needs.{needs}
+use Rattle.state.proofs.with_place.Statement.{statement}
+use Rattle.state.proofs.with_place.Tie as tie
+use Rattle.state.proofs.with_place.Reads as reads
+use Rattle.state.proofs.with_place.Lts as lts
+use Rattle.tags.proofs.hold.Reads as hold-reads
+
+hold-requires : tie.Need-hold-requires
+hold-requires c κs = search needs
+
+returns : tie.Need-returns
+returns c = rw (c .hold .ensures)
+
+pub with-place-spec : {M : Type 1} → statement M
+with-place-spec = tie.close (tie.spec hold-requires returns)

@@ -1,0 +1,70 @@
+-- The Function's state. 01, "The Function's tables".
+use mathlib.Core.Bool.{Bool, true, false, cond, _||_}
+use mathlib.Core.List.{List}
+use Prim.Native.Nat.{ℕ}
+use lib.Dec.{eqb}
+use Rattle.packet.specs.declared.Tag.{Tag}
+use Rattle.atc.specs.declared.Cache.{Cache}
+use Rattle.atc.specs.Cache.{emptied}
+use Rattle.tags.specs.declared.Open.{Open}
+use Rattle.tags.specs.declared.Place.{Place}
+use Rattle.tags.specs.Tags.{emptyPlaces, placed}
+use Rattle.pages.specs.declared.Pages.{Pages}
+use Rattle.pages.specs.Pages.{switchedOff}
+use Rattle.replies.specs.declared.Rcb.{Rcb}
+use Rattle.replies.specs.declared.Rcb.the-variants.{B64, B128}
+use Rattle.state.specs.declared.Agent.{Agent}
+use Rattle.state.specs.declared.Agent.the-variants.{Unknown}
+use Rattle.state.specs.declared.Function.{Function}
+
+-- RCB is 64 or 128
+abbrev pub isRcb : ℕ → Bool
+isRcb bytes = eqb bytes 64 || eqb bytes 128
+
+abbrev pub rcbOf : ℕ → Rcb
+rcbOf bytes = cond (eqb bytes 128) B128 B64
+
+-- E clear, the hand 0, the page interface off, all else empty
+abbrev pub fresh : ℕ → ℕ → Rcb → Function
+fresh id stu rcb =
+    record {
+      id = id;
+      stu = stu;
+      rcb = rcb;
+      enabled = false;
+      agent = Unknown;
+      waiting = 0;
+      cache = emptied 0;
+      places = emptyPlaces;
+      pages = switchedOff;
+    }
+
+-- the Function with some of its parts changed
+abbrev pub remade : Function → Bool → Agent → ℕ → Cache → List Place → Pages → Function
+remade f enabled agent waiting cache places pages =
+    record {
+      id = f .id;
+      stu = f .stu;
+      rcb = f .rcb;
+      enabled = enabled;
+      agent = agent;
+      waiting = waiting;
+      cache = cache;
+      places = places;
+      pages = pages;
+    }
+
+abbrev pub withEnable : Function → Bool → Function
+withEnable f enabled = remade f enabled (f .agent) (f .waiting) (f .cache) (f .places) (f .pages)
+
+abbrev pub withWaiting : Function → ℕ → Function
+withWaiting f waiting = remade f (f .enabled) (f .agent) waiting (f .cache) (f .places) (f .pages)
+
+abbrev pub withTables : Function → Cache → List Place → Function
+withTables f cache places = remade f (f .enabled) (f .agent) (f .waiting) cache places (f .pages)
+
+abbrev pub withPages : Function → Pages → Function
+withPages f pages = remade f (f .enabled) (f .agent) (f .waiting) (f .cache) (f .places) pages
+
+abbrev pub withPlace : Function → Tag → Open → Function
+withPlace f t o = withTables f (f .cache) (placed (f .places) t o)

@@ -1,0 +1,45 @@
+-- Reset, Enable, Disable, and the page interface on and off. 01, "The Function's tables".
+use mathlib.Core.Bool.{Bool, true, false, cond, _&&_}
+use Prim.Native.Nat.{ℕ}
+use lib.Dec.{leb}
+use Rattle.packet.specs.Numbers.{Said, gives, number, refuse, demand}
+use Rattle.atc.specs.Cache.{emptied}
+use Rattle.tags.specs.Tags.{allStaled}
+use Rattle.pages.specs.declared.Interface.{Interface}
+use Rattle.pages.specs.declared.Interface.the-variants.{Off, On, Stopped}
+use Rattle.pages.specs.Pages.{switchedOff, switchedOn}
+use Rattle.state.specs.declared.Function.{Function}
+use Rattle.state.specs.State.{isRcb, rcbOf, fresh, remade, withEnable, withPages}
+use Rattle.state.specs.Answers.{Deed, done, plainly}
+
+-- reset fixes the ID, STU 0 to 31 and RCB 64 or 128; other values are 12
+unfoldable pub resetting : ℕ → ℕ → ℕ → Said Deed
+resetting id stu rcb =
+    demand 12 (leb stu 31)
+    (demand 12 (isRcb rcb)
+    (plainly (fresh id stu (rcbOf rcb)) done))
+
+-- from clear to set E empties the cache, the hand staying, and marks open Translation Requests stale
+unfoldable pub enabling : Function → Said Deed
+enabling f =
+    cond (f .enabled) (plainly f done)
+    (plainly (remade f true (f .agent) (f .waiting) (emptied (f .cache .hand)) (allStaled (f .places)) (f .pages)) done)
+
+-- else only E changes
+unfoldable pub disabling : Function → Said Deed
+disabling f = plainly (withEnable f false) done
+
+abbrev pub isGranted : ℕ → Bool
+isGranted allocation = leb 1 allocation && leb allocation 512
+
+-- switching on: 15 when stopped; 12 when on, and for an allocation outside 1 to 512
+unfoldable pub switchingOn : Function → ℕ → Interface → Said Deed
+switchingOn f allocation Off = demand 12 (isGranted allocation) (plainly (withPages f (switchedOn allocation)) done)
+switchingOn f allocation On = number 12
+switchingOn f allocation Stopped = number 15
+
+-- switching off closes all groups, and does nothing when off or stopped
+unfoldable pub switchingOff : Function → Interface → Said Deed
+switchingOff f Off = plainly f done
+switchingOff f On = plainly (withPages f switchedOff) done
+switchingOff f Stopped = plainly f done

@@ -1,0 +1,222 @@
+// The Function: its state, what its calls answer, and the calls that neither send nor receive.
+use atc::Cache;
+use packet::Refusal;
+use packet::Tag;
+use pages::Interface;
+use pages::Pages;
+use replies::Rcb;
+use tags::Open;
+use tags::Place;
+ghost use mathlib.Core.Path.{_≡_};
+ghost use mathlib.Core.List.{[]};
+ghost use Rattle.state.specs.State.{fresh, withPlace, withPages, isRcb, rcbOf};
+ghost use Rattle.state.specs.Answers.{refusedWith, plain, told, ended};
+ghost use Rattle.state.specs.Switches.{resetting, enabling, disabling, switchingOn, switchingOff, isGranted};
+
+// Who sends Invalidate Requests; known from the first accepted one on.
+pub enum Agent {
+    Unknown,
+    Known(u16),
+}
+
+// `waiting` has the ITags whose completion is not yet sent.
+pub struct Function {
+    pub id: u16,
+    pub stu: u8,
+    pub rcb: Rcb,
+    pub enabled: bool,
+    pub agent: Agent,
+    pub waiting: u32,
+    pub cache: Cache,
+    pub places: [Place; 32],
+    pub pages: Pages,
+}
+
+// What a call answers.
+pub enum Answer {
+    Done,
+    Opened(Tag),
+    Carried(u32),
+    Discarded,
+    More,
+    Filled,
+    Aborted,
+    SwitchedOff,
+    PayloadMore,
+    PayloadLast,
+    ReadFailed,
+    Refused(Refusal),
+}
+
+// The state after a call, its answer, and the length of the packet that it sent, or 0.
+pub struct Outcome {
+    pub state: Function,
+    pub answer: Answer,
+    pub sent: usize,
+}
+
+pub fn refused(f: Function, r: Refusal) -> Outcome
+    ensures { λ o. ⌜ o ≡ refusedWith f r ⌝ }
+{
+    let answer = Answer::Refused(r);
+    Outcome {
+        state: f,
+        answer,
+        sent: 0,
+    }
+}
+
+// A call that sends nothing.
+pub fn answered(f: Function, answer: Answer) -> Outcome
+    ensures { λ o. ⌜ o ≡ plain f answer ⌝ }
+{
+    Outcome {
+        state: f,
+        answer,
+        sent: 0,
+    }
+}
+
+fn fresh_function(id: u16, stu: u8, rcb: Rcb) -> Function
+    ensures { λ r. ⌜ r ≡ fresh id stu rcb ⌝ }
+{
+    let agent = Agent::Unknown;
+    let cache = atc::empty(0);
+    let places = tags::all_free();
+    let pages = pages::off();
+    Function {
+        id,
+        stu,
+        rcb,
+        enabled: false,
+        agent,
+        waiting: 0,
+        cache,
+        places,
+        pages,
+    }
+}
+
+// A new Function is as after a reset with ID 0, STU 0 and RCB 64.
+pub fn new() -> Function
+    ensures { λ r. ⌜ r ≡ fresh 0 0 (rcbOf 64) ⌝ }
+{
+    let rcb = Rcb::B64;
+    fresh_function(0, 0, rcb)
+}
+
+fn is_rcb(bytes: u8) -> bool
+    ensures { λ r. ⌜ r ≡ isRcb bytes ⌝ }
+{
+    if bytes == 64 { true } else { bytes == 128 }
+}
+
+fn rcb_of(bytes: u8) -> Rcb
+    ensures { λ r. ⌜ r ≡ rcbOf bytes ⌝ }
+{
+    if bytes == 128 { Rcb::B128 } else { Rcb::B64 }
+}
+
+pub fn reset(f: Function, id: u16, stu: u8, rcb: u8) -> Outcome
+    ensures { λ r. ⌜ told r [] ≡ ended f [] (resetting id stu rcb) ⌝ }
+{
+    if 31 < stu {
+        return refused(f, Refusal::Argument);
+    }
+    if is_rcb(rcb) {
+        let boundary = rcb_of(rcb);
+        answered(fresh_function(id, stu, boundary), Answer::Done)
+    } else {
+        refused(f, Refusal::Argument)
+    }
+}
+
+// E goes from clear to set: the cache is emptied and open Translation Requests are out of date.
+pub fn enable(mut f: Function) -> Outcome
+    ensures { λ r. ⌜ told r [] ≡ ended f [] (enabling f) ⌝ }
+{
+    if f.enabled {
+        return answered(f, Answer::Done);
+    }
+    let places = f.places;
+    let hand = f.cache.hand;
+    let emptied = atc::empty(hand);
+    let staled = tags::stale_all(places);
+    f.enabled = true;
+    f.cache = emptied;
+    f.places = staled;
+    answered(f, Answer::Done)
+}
+
+pub fn disable(mut f: Function) -> Outcome
+    ensures { λ r. ⌜ told r [] ≡ ended f [] (disabling f) ⌝ }
+{
+    f.enabled = false;
+    answered(f, Answer::Done)
+}
+
+// An allocation is 1 to 512.
+fn is_granted(allocation: u16) -> bool
+    ensures { λ r. ⌜ r ≡ isGranted allocation ⌝ }
+{
+    if 1 <= allocation {
+        allocation <= 512
+    } else {
+        false
+    }
+}
+
+pub fn with_pages(mut f: Function, pages: Pages) -> Function
+    ensures { λ r. ⌜ r ≡ withPages f pages ⌝ }
+{
+    f.pages = pages;
+    f
+}
+
+fn switch_on(f: Function, allocation: u16) -> Outcome
+    ensures { λ r. ⌜ told r [] ≡ ended f [] (switchingOn f allocation Interface.Off) ⌝ }
+{
+    if is_granted(allocation) {
+        let pages = pages::on(allocation);
+        answered(with_pages(f, pages), Answer::Done)
+    } else {
+        refused(f, Refusal::Argument)
+    }
+}
+
+pub fn pages_on(f: Function, allocation: u16) -> Outcome
+    ensures { λ r. ⌜ told r [] ≡ ended f [] (switchingOn f allocation (f .pages .interface)) ⌝ }
+{
+    let pages = f.pages;
+    let interface = pages.interface;
+    match interface {
+        Interface::Off => switch_on(f, allocation),
+        Interface::On => refused(f, Refusal::Argument),
+        Interface::Stopped => refused(f, Refusal::PagesOff),
+    }
+}
+
+pub fn pages_off(f: Function) -> Outcome
+    ensures { λ r. ⌜ told r [] ≡ ended f [] (switchingOff f (f .pages .interface)) ⌝ }
+{
+    let pages = f.pages;
+    let interface = pages.interface;
+    match interface {
+        Interface::Off => answered(f, Answer::Done),
+        Interface::On => {
+            let off = pages::off();
+            answered(with_pages(f, off), Answer::Done)
+        }
+        Interface::Stopped => answered(f, Answer::Done),
+    }
+}
+
+// What a tag is open for.
+pub fn with_place(mut f: Function, t: Tag, o: Open) -> Function
+    ensures { λ r. ⌜ r ≡ withPlace f t o ⌝ }
+{
+    let places = f.places;
+    let next = tags::hold(places, t, o);
+    f.places = next;
+    f
+}

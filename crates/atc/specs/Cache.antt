@@ -33,9 +33,13 @@ slotOf slots unit = firstAt (holds unit) slots
 abbrev pub freeSlot : List Entry → ℕ
 freeSlot slots = firstAt isFree slots
 
+-- what a slot holds; there is nothing past the last
+abbrev pub slotAt : List Entry → ℕ → Entry
+slotAt slots i = getD slots i nothing
+
 -- the entry of a unit
 unfoldable pub found : List Entry → ℕ → Found
-found slots unit = cond (ltb (slotOf slots unit) 32) (Hit (getD slots (slotOf slots unit) nothing)) Miss
+found slots unit = cond (ltb (slotOf slots unit) 32) (Hit (slotAt slots (slotOf slots unit))) Miss
 
 -- slot i and the hand are set, and nothing else
 abbrev pub put : Cache → ℕ → Entry → ℕ → Cache

@@ -87,9 +87,9 @@ fn lowest_free(slots: [Entry; 32]) -> usize
 pub fn find(slots: [Entry; 32], unit: u64) -> Found
     ensures { λ r. ⌜ r ≡ found slots unit ⌝ }
 {
-    let i = slot_of(slots, unit);
-    if i < 32 {
-        Found::Hit(slots[i])
+    let at = slot_of(slots, unit);
+    if at < 32 {
+        Found::Hit(slots[at])
     } else {
         Found::Miss
     }
@@ -101,20 +101,21 @@ pub fn fill(mut c: Cache, e: Entry) -> Cache
     ensures { λ r. ⌜ r ≡ filled e c ⌝ }
 {
     let slots = c.slots;
-    let i = slot_of(slots, e.unit);
-    if i < 32 {
-        c.slots[i] = e;
-        return c;
-    }
-    let j = lowest_free(slots);
-    if j < 32 {
-        c.slots[j] = e;
-        return c;
-    }
     let hand = c.hand;
-    let k = (hand % 32) as usize;
-    c.slots[k] = e;
-    c.hand = std::num::wrapping_add_u32(hand, 1);
+    let next = std::num::wrapping_add_u32(hand, 1);
+    let own = slot_of(slots, e.unit);
+    let free = lowest_free(slots);
+    if own < 32 {
+        c.slots[own] = e;
+        return c;
+    }
+    if free < 32 {
+        c.slots[free] = e;
+        return c;
+    }
+    let under = (hand % 32) as usize;
+    c.slots[under] = e;
+    c.hand = next;
     c
 }
 

@@ -27,3 +27,10 @@ byCases false f g = g refl
 pub and-both : (t u : Bool) → (t && u) ≡ true → (t ≡ true) × (u ≡ true)
 and-both true u e = (refl, e)
 and-both false u e = let z : _≡_ {A = ℕ} 0 1 = cc in absurd (omega arith)
+
+pub never-both : (t : Bool) → t ≡ true → t ≡ false → ⊥
+never-both t e g = let z : _≡_ {A = ℕ} 0 1 = cc in omega arith
+
+pub is-false : (t : Bool) → (t ≡ true → ⊥) → t ≡ false
+is-false true h = absurd (h refl)
+is-false false h = refl

@@ -1,13 +1,14 @@
 -- The first place of a list at which a test holds.
 use mathlib.Core.Path.{_≡_, refl, sym, _∙_}
 use mathlib.Core.Bool.{Bool, true, false, cond}
-use mathlib.Core.List.{List, [], _∷_}
+use mathlib.Core.List.{List, [], _∷_, map}
 use Prim.Native.Nat.{ℕ, zero, suc, _+_, _<_, _≤_}
-use native.Mathlib.Nat.{add-zero, zero-add}
+use native.Mathlib.Nat.{add-zero, zero-add, not-suc-le-zero, le-of-suc-le-suc}
 use native.Mathlib.Numerals.{add-one}
 use native.Mathlib.Omega.{arith}
-use lib.ListN.{length, getD, drop}
+use lib.ListN.{length, getD, set, drop}
 use lib.Seq.{drop-cons, drop-length}
+use Rattle.lemmas.specs.Cases.{byCases}
 
 -- the index of the first element that passes the test, and the length where none does
 unfoldable pub firstAt : {A : Type 0} → (A → Bool) → List A → ℕ
@@ -49,3 +50,34 @@ first-holds p (x ∷ xs) d h = go (p x) refl (λ k. first-holds p xs d k) h
     go : (b : Bool) → p x ≡ b → (firstAt p xs < length xs → p (getD xs (firstAt p xs) d) ≡ true) → cond b zero (suc (firstAt p xs)) < suc (length xs) → p (getD (x ∷ xs) (cond b zero (suc (firstAt p xs))) d) ≡ true
     go true e f k = e
     go false e f k = f (omega arith)
+
+-- and is the first to
+pub first-least : {A : Type 0} (p : A → Bool) (l : List A) (d : A) (i : ℕ) → p (getD l i d) ≡ true → firstAt p l ≤ i
+unfolding firstAt
+first-least p [] d i e = omega arith
+first-least p (x ∷ xs) d zero e = rw e (omega arith)
+first-least p (x ∷ xs) d (suc i) e =
+    byCases (p x) (λ t. rw t (omega arith)) (λ t. rw t (omega (arith, first-least p xs d i e)))
+
+module _ {A : Type 0} (p : A → Bool) where
+  -- what is stored where none before it passes is found if it passes,
+  pub first-set : (l : List A) (k : ℕ) (y : A) → k < length l → k ≤ firstAt p l → p y ≡ true → firstAt p (set l k y) ≡ k
+  unfolding firstAt
+  first-set [] k y h g e = absurd (not-suc-le-zero h)
+  first-set (x ∷ xs) zero y h g e = rw e
+  first-set (x ∷ xs) (suc k) y h g e =
+      byCases (p x)
+      (λ t. absurd (not-suc-le-zero (rw t at g)))
+      (λ t. rw (t, first-set xs k y (le-of-suc-le-suc h) (le-of-suc-le-suc (rw t at g)) e))
+
+  -- and what does not pass changes nothing in the place of what does not
+  pub first-other : (l : List A) (k : ℕ) (y d : A) → p (getD l k d) ≡ false → p y ≡ false → firstAt p (set l k y) ≡ firstAt p l
+  unfolding firstAt
+  first-other [] k y d e g = refl
+  first-other (x ∷ xs) zero y d e g = rw (e, g)
+  first-other (x ∷ xs) (suc k) y d e g = rw (first-other xs k y d e g)
+
+  pub first-map : (f : A → A) → ((x : A) → p (f x) ≡ p x) → (l : List A) → firstAt p (map f l) ≡ firstAt p l
+  unfolding firstAt
+  first-map f h [] = refl
+  first-map f h (x ∷ xs) = rw (h x, first-map f h xs)

@@ -1,6 +1,7 @@
 -- A loop that replaces elements of an array by a function of them.
 use mathlib.Core.Path.{_≡_, refl, ap}
 use mathlib.Core.List.{List, [], _∷_, _++_, map}
+use mathlib.Core.Logic.{_⊎_, inl, inr, ⊎-elim}
 use Prim.Native.Nat.{ℕ, zero, suc, _+_, _<_, _≤_}
 use native.Mathlib.Nat.{not-suc-le-zero, le-of-suc-le-suc}
 use native.Mathlib.Numerals.{add-one}
@@ -47,3 +48,11 @@ module _ {A : Type 0} (f : A → A) where
   map-end zero (x ∷ l) h = absurd (not-suc-le-zero h)
   map-end (suc i) [] h = refl
   map-end (suc i) (x ∷ l) h = ap (λ (t : List A). f x ∷ t) (map-end i l (le-of-suc-le-suc h))
+
+-- after one store every element is what it was, or is what was stored
+pub set-or : {A : Type 0} (l : List A) (k i : ℕ) (y d : A) → (getD (set l k y) i d ≡ getD l i d) ⊎ ((i ≡ k) × (getD (set l k y) i d ≡ y))
+set-or [] k i y d = inl refl
+set-or (x ∷ l) zero zero y d = inr (refl, refl)
+set-or (x ∷ l) zero (suc i) y d = inl refl
+set-or (x ∷ l) (suc k) zero y d = inl refl
+set-or (x ∷ l) (suc k) (suc i) y d = ⊎-elim inl (λ q. inr (ap suc (q .0), q .1)) (set-or l k i y d)

@@ -25,3 +25,7 @@ past-leb k a b h = sym (lt-leb (a + k) b (omega arith))
 -- what does not fit into 64 bits is past everything that does
 pub over-ltb : (last first offset : ℕ) → last < 2 ^ 64 → 2 ^ 64 - 1 - first < offset → ltb last (first + offset) ≡ true
 over-ltb last first offset h k = lt-ltb last (first + offset) (omega arith)
+
+-- n bytes from a on end at or below 2 ^ 64
+pub room-leb : (a n : ℕ) → a < 2 ^ 64 → 1 ≤ n → leb (n - 1) (2 ^ 64 - 1 - a) ≡ leb (a + n) (2 ^ 64)
+room-leb a n h k = same-leb (n - 1) (2 ^ 64 - 1 - a) (a + n) (2 ^ 64) (λ l. omega arith) (λ l. omega arith)

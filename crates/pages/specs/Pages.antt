@@ -46,8 +46,11 @@ unfoldable pub isSpent : List Group → ℕ → Bool
 isSpent groups allocation = leb allocation (used groups)
 
 -- a request more; after the last of a group the group waits
+abbrev pub more : Group → Bool → Group
+more g last = record { waits = last; requests = (g .requests + 1) % 2 ^ 16 }
+
 unfoldable pub joined : List Group → PrgIndex → Bool → List Group
-joined groups k last = set groups (k .0 % 32) (record { waits = last; requests = (groupAt groups k .requests + 1) % 2 ^ 16 })
+joined groups k last = set groups (k .0 % 32) (more (groupAt groups k) last)
 
 -- a group is closed and its credits return
 unfoldable pub closed : List Group → PrgIndex → List Group

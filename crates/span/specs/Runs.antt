@@ -46,3 +46,16 @@ region-mono a b e h = le-div-iff-mul-le {k = 2 ^ e} {x = a / 2 ^ e} {y = b} (pow
 -- where the units of a request lie: none is far from the first
 pub offset-fits : (j unit : ℕ) → j ≤ 15 → unit ≤ 0x800_0000_0000 → j * unit ≤ 0x8000_0000_0000
 offset-fits j unit h k = omega (arith, mul-le-mul-right unit h)
+
+-- a 16-bit number of units fits, and is no less than a byte where there is a unit
+pub many-fit : (n unit : ℕ) → n < 2 ^ 16 → unit ≤ 0x800_0000_0000 → n * unit < 2 ^ 64
+many-fit n unit h k =
+    let few : n ≤ 65535 = omega arith in
+    omega (arith, mul-le-mul-right unit few)
+
+pub some-bytes : (n unit : ℕ) → 1 ≤ n → 1 ≤ unit → 1 ≤ n * unit
+some-bytes n unit h k = omega (arith, mul-le-mul-right unit h)
+
+-- a region begins inside the address space
+pub region-lt-top : (a e : ℕ) → a < 2 ^ 64 → regionOf a e .first < 2 ^ 64
+region-lt-top a e h = omega (arith, region-first a e)

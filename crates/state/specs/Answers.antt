@@ -1,10 +1,7 @@
 -- What calls answer, in the paper's words, and what they leave. 01, "What unrefused calls answer", "The seventeen numbers".
-use mathlib.Core.Path.{_≡_, refl, ap, _∙_}
-use mathlib.Core.Bool.{Bool, true, false, cond}
 use mathlib.Core.List.{List, [], _++_}
 use Prim.Native.Nat.{ℕ}
 use lib.ListN.{length, drop}
-use borrow.Author.Tests.{lt-ltb, le-ltb, le-leb, lt-leb, eq-eqb, ne-eqb}
 use Rattle.packet.specs.declared.Packet.{Packet}
 use Rattle.packet.specs.declared.Refusal.{Refusal}
 use Rattle.packet.specs.Numbers.{Said, gives, number, numberOf}
@@ -81,5 +78,5 @@ abbrev pub sentAs : Function → Word → List ℕ → Said ℕ → Said Deed
 sentAs f w bytes (gives n) = gives (record { state = f; word = w; sent = n; bytes = bytes })
 sentAs f w bytes (number n) = number n
 
-abbrev pub sending : Function → Word → Packet → List ℕ → List ℕ → Said Deed
+unfoldable pub sending : Function → Word → Packet → List ℕ → List ℕ → Said Deed
 sending f w p load out = sentAs f w (bytesOf p load) (writing p (length load) (length out))

@@ -1,5 +1,5 @@
 -- What closes a `return` of a call: the tests that led there say which case of its definition holds.
-use mathlib.Core.Path.{_≡_, refl, sym, ap, _∙_}
+use mathlib.Core.Path.{_≡_, sym, ap, _∙_}
 use mathlib.Core.Bool.{Bool, true, false, cond}
 use mathlib.Core.List.{List}
 use Prim.Native.Nat.{ℕ}
@@ -21,9 +21,11 @@ module _ (f : Function) (out : List ℕ) where
   -- a packet that was written, and one that was not
   module _ (g : Function) (w : Word) (p : Packet) (load buffer : List ℕ) (b : buffer ≡ after (writing p (length load) (length out)) (bytesOf p load) out) where
     pub end-sent : (n : ℕ) → gives n ≡ writing p (length load) (length out) → record { state = g; says = gives w; sent = n; buffer = buffer } ≡ ended f out (sending g w p load out)
+    unfolding sending
     end-sent n e = rw (b, ← e)
 
     pub end-unsent : (n : ℕ) → number n ≡ writing p (length load) (length out) → record { state = f; says = number n; sent = 0; buffer = buffer } ≡ ended f out (sending g w p load out)
+    unfolding sending
     end-unsent n e = rw (b, ← e)
 
 pub ruleset ends = (end-take, end-skip, lt-ltb, le-ltb, le-leb, lt-leb, eq-eqb, ne-eqb)

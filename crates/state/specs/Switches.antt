@@ -2,7 +2,7 @@
 use mathlib.Core.Bool.{Bool, true, false, cond, _&&_}
 use Prim.Native.Nat.{ℕ}
 use lib.Dec.{leb}
-use Rattle.packet.specs.Numbers.{Said, gives, number, refuse, demand}
+use Rattle.packet.specs.Numbers.{Said, number, demand}
 use Rattle.atc.specs.Cache.{emptied}
 use Rattle.tags.specs.Tags.{allStaled}
 use Rattle.pages.specs.declared.Interface.{Interface}

@@ -1,4 +1,5 @@
-use Rattle.lemmas.specs.Cases.{cases}
+use native.Mathlib.Omega.{arith}
+use borrow.Author.Tests.{lt-ltb, le-ltb}
 use Rattle.atc.specs.Cache.{unitDropped}
 use borrow.Author.Needs.{needs}
 use Rattle.atc.proofs.drop_unit.Statement.{statement}
@@ -18,11 +19,15 @@ element-set-from-c c = search needs
 
 returns : tie.Need-returns
 unfolding unitDropped
-returns c = rw (c .free-slot .ensures, ← c .before .before .slot-of .ensures) (search cases depth 12)
+returns c =
+    let at = c .before .before .slot-of in
+    rw (← at .ensures, lt-ltb (at .result) 32 (omega arith), c .free-slot .ensures)
 
 returns-2 : tie.Need-returns-2
 unfolding unitDropped
-returns-2 c = rw (← c .before .slot-of .ensures) (search cases depth 12)
+returns-2 c =
+    let at = c .before .slot-of in
+    rw (← at .ensures, le-ltb (at .result) 32 (omega arith))
 
 pub drop-unit-spec : {M : Type 1} → statement M
 drop-unit-spec =

@@ -1,4 +1,5 @@
-use Rattle.lemmas.specs.Cases.{cases}
+use native.Mathlib.Omega.{arith}
+use borrow.Author.Tests.{lt-ltb, le-ltb}
 use Rattle.atc.specs.Cache.{found}
 use borrow.Author.Needs.{needs}
 use Rattle.atc.proofs.find.Statement.{statement}
@@ -15,11 +16,15 @@ array-copy-out-t11 c = search needs
 
 returns : tie.Need-returns
 unfolding found
-returns c = rw (← c .before .before .slot-of .ensures) (search cases depth 12)
+returns c =
+    let at = c .before .before .slot-of in
+    rw (← at .ensures, lt-ltb (at .result) 32 (omega arith))
 
 returns-2 : tie.Need-returns-2
 unfolding found
-returns-2 c = rw (← c .before .slot-of .ensures) (search cases depth 12)
+returns-2 c =
+    let at = c .before .slot-of in
+    rw (← at .ensures, le-ltb (at .result) 32 (omega arith))
 
 pub find-spec : {M : Type 1} → statement M
 find-spec = tie.close (tie.spec slot-of-requires mul-t8 array-copy-out-t11 returns returns-2)

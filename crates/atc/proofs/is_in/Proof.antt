@@ -12,7 +12,7 @@ meets-requires : tie.Need-meets-requires
 meets-requires c κs = search needs
 
 returns : tie.Need-returns
-returns c = rw (← c .before .before .unit-exponent .ensures, ← c .before .region .ensures, c .before .before .before .if1 .taken) (c .meets .ensures)
+returns c = rw (c .meets .ensures, c .before .region .ensures, c .before .before .unit-exponent .ensures, c .before .before .before .if1 .taken)
 
 returns-2 : tie.Need-returns-2
 returns-2 c = search needs

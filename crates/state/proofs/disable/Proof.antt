@@ -2,9 +2,6 @@ use Rattle.state.specs.Switches.{disabling}
 use borrow.Author.Needs.{needs}
 use Rattle.state.proofs.disable.Statement.{statement}
 use Rattle.state.proofs.disable.Tie as tie
-use Rattle.state.proofs.disable.Reads as reads
-use Rattle.state.proofs.disable.Lts as lts
-use Rattle.state.proofs.answered.Reads as answered-reads
 
 answered-requires : tie.Need-answered-requires
 answered-requires c κs = search needs

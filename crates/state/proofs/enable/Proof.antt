@@ -4,11 +4,6 @@ use Rattle.state.specs.Switches.{enabling}
 use borrow.Author.Needs.{needs}
 use Rattle.state.proofs.enable.Statement.{statement}
 use Rattle.state.proofs.enable.Tie as tie
-use Rattle.state.proofs.enable.Reads as reads
-use Rattle.state.proofs.enable.Lts as lts
-use Rattle.atc.proofs.empty.Reads as empty-reads
-use Rattle.state.proofs.answered.Reads as answered-reads
-use Rattle.tags.proofs.stale_all.Reads as stale-all-reads
 
 answered-requires : tie.Need-answered-requires
 answered-requires c κs = search needs

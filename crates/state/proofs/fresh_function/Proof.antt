@@ -1,11 +1,6 @@
 use borrow.Author.Needs.{needs}
 use Rattle.state.proofs.fresh_function.Statement.{statement}
 use Rattle.state.proofs.fresh_function.Tie as tie
-use Rattle.state.proofs.fresh_function.Reads as reads
-use Rattle.state.proofs.fresh_function.Lts as lts
-use Rattle.atc.proofs.empty.Reads as empty-reads
-use Rattle.pages.proofs.off.Reads as off-reads
-use Rattle.tags.proofs.all_free.Reads as all-free-reads
 
 empty-requires : tie.Need-empty-requires
 empty-requires c κs = search needs

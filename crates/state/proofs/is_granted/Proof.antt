@@ -1,8 +1,6 @@
 use Rattle.lemmas.specs.Cases.{cases}
 use Rattle.state.proofs.is_granted.Statement.{statement}
 use Rattle.state.proofs.is_granted.Tie as tie
-use Rattle.state.proofs.is_granted.Reads as reads
-use Rattle.state.proofs.is_granted.Lts as lts
 
 returns : tie.Need-returns
 returns c = search cases depth 12

@@ -1,8 +1,6 @@
 use borrow.Author.Tests.{eq-eqb, ne-eqb}
 use Rattle.state.proofs.is_rcb.Statement.{statement}
 use Rattle.state.proofs.is_rcb.Tie as tie
-use Rattle.state.proofs.is_rcb.Reads as reads
-use Rattle.state.proofs.is_rcb.Lts as lts
 
 returns : tie.Need-returns
 returns c = rw (eq-eqb _ _ (c .if1 .taken))

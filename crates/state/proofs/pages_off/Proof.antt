@@ -2,11 +2,6 @@ use Rattle.state.specs.Switches.{switchingOff}
 use borrow.Author.Needs.{needs}
 use Rattle.state.proofs.pages_off.Statement.{statement}
 use Rattle.state.proofs.pages_off.Tie as tie
-use Rattle.state.proofs.pages_off.Reads as reads
-use Rattle.state.proofs.pages_off.Lts as lts
-use Rattle.pages.proofs.off.Reads as off-reads
-use Rattle.state.proofs.answered.Reads as answered-reads
-use Rattle.state.proofs.with_pages.Reads as with-pages-reads
 
 enum-told : tie.Need-enum-told
 enum-told c = search needs

@@ -6,10 +6,6 @@ use Rattle.state.specs.Switches.{switchingOn}
 use borrow.Author.Needs.{needs}
 use Rattle.state.proofs.pages_on.Statement.{statement}
 use Rattle.state.proofs.pages_on.Tie as tie
-use Rattle.state.proofs.pages_on.Reads as reads
-use Rattle.state.proofs.pages_on.Lts as lts
-use Rattle.state.proofs.refused.Reads as refused-reads
-use Rattle.state.proofs.switch_on.Reads as switch-on-reads
 
 enum-told : tie.Need-enum-told
 enum-told c = search needs

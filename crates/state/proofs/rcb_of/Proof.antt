@@ -1,8 +1,6 @@
 use Rattle.lemmas.specs.Cases.{cases}
 use Rattle.state.proofs.rcb_of.Statement.{statement}
 use Rattle.state.proofs.rcb_of.Tie as tie
-use Rattle.state.proofs.rcb_of.Reads as reads
-use Rattle.state.proofs.rcb_of.Lts as lts
 
 returns : tie.Need-returns
 returns c = search cases depth 12

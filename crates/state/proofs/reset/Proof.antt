@@ -5,13 +5,6 @@ use Rattle.state.specs.Switches.{resetting}
 use borrow.Author.Needs.{needs}
 use Rattle.state.proofs.reset.Statement.{statement}
 use Rattle.state.proofs.reset.Tie as tie
-use Rattle.state.proofs.reset.Reads as reads
-use Rattle.state.proofs.reset.Lts as lts
-use Rattle.state.proofs.answered.Reads as answered-reads
-use Rattle.state.proofs.fresh_function.Reads as fresh-function-reads
-use Rattle.state.proofs.is_rcb.Reads as is-rcb-reads
-use Rattle.state.proofs.rcb_of.Reads as rcb-of-reads
-use Rattle.state.proofs.refused.Reads as refused-reads
 
 refused-requires : tie.Need-refused-requires
 refused-requires c κs = search needs

@@ -4,13 +4,6 @@ use Rattle.state.specs.Switches.{switchingOn}
 use borrow.Author.Needs.{needs}
 use Rattle.state.proofs.switch_on.Statement.{statement}
 use Rattle.state.proofs.switch_on.Tie as tie
-use Rattle.state.proofs.switch_on.Reads as reads
-use Rattle.state.proofs.switch_on.Lts as lts
-use Rattle.pages.proofs.on.Reads as on-reads
-use Rattle.state.proofs.answered.Reads as answered-reads
-use Rattle.state.proofs.is_granted.Reads as is-granted-reads
-use Rattle.state.proofs.refused.Reads as refused-reads
-use Rattle.state.proofs.with_pages.Reads as with-pages-reads
 
 is-granted-requires : tie.Need-is-granted-requires
 is-granted-requires c κs = search needs

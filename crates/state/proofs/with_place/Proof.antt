@@ -1,9 +1,6 @@
 use borrow.Author.Needs.{needs}
 use Rattle.state.proofs.with_place.Statement.{statement}
 use Rattle.state.proofs.with_place.Tie as tie
-use Rattle.state.proofs.with_place.Reads as reads
-use Rattle.state.proofs.with_place.Lts as lts
-use Rattle.tags.proofs.hold.Reads as hold-reads
 
 hold-requires : tie.Need-hold-requires
 hold-requires c κs = search needs

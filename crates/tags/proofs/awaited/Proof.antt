@@ -1,9 +1,6 @@
 use borrow.Author.Needs.{needs}
 use Rattle.tags.proofs.awaited.Statement.{statement}
 use Rattle.tags.proofs.awaited.Tie as tie
-use Rattle.tags.proofs.awaited.Reads as reads
-use Rattle.tags.proofs.awaited.Lts as lts
-use Rattle.tags.proofs.itags.with.Reads as with-reads
 
 with-requires : tie.Need-with-requires
 with-requires c κs = search needs

@@ -2,10 +2,6 @@ use Rattle.tags.specs.Tags.{bytesAsked}
 use borrow.Author.Needs.{needs}
 use Rattle.tags.proofs.bytes_asked.Statement.{statement}
 use Rattle.tags.proofs.bytes_asked.Tie as tie
-use Rattle.tags.proofs.bytes_asked.Reads as reads
-use Rattle.tags.proofs.bytes_asked.Lts as lts
-use Rattle.span.proofs.reach.Reads as reach-reads
-use Rattle.tags.proofs.one_less.Reads as one-less-reads
 
 one-less-requires : tie.Need-one-less-requires
 one-less-requires c κs = search needs

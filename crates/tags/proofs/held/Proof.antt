@@ -3,8 +3,6 @@ use Rattle.tags.specs.Tags.{heldAt}
 use borrow.Author.Needs.{needs}
 use Rattle.tags.proofs.held.Statement.{statement}
 use Rattle.tags.proofs.held.Tie as tie
-use Rattle.tags.proofs.held.Reads as reads
-use Rattle.tags.proofs.held.Lts as lts
 
 cast-i : tie.Need-cast-i
 cast-i c = search needs

@@ -1,18 +1,14 @@
 use Rattle.tags.specs.declared.Open.the-variants.{Free}
-use Rattle.tags.specs.Tags.{holding}
-use mathlib.Core.Path.{_≡_, sym, ap, _∙_}
-use Prim.Native.Nat.{ℕ, _+_, _-_, _≤_}
+use Rattle.tags.specs.Tags.{holding, noteAt, noted}
+use mathlib.Core.Path.{_≡_}
+use Prim.Native.Nat.{_+_, _-_, _≤_}
 use native.Mathlib.Omega.{arith}
 use lib.Bits.{bitOr}
 use lib.ListN.{length, drop}
 use Rattle.lemmas.specs.Gather.{gather, gather-start, gather-turn}
-use Rattle.tags.specs.Tags.{noteAt, noted}
 use borrow.Author.Needs.{needs}
 use Rattle.tags.proofs.held_back.Statement.{statement}
 use Rattle.tags.proofs.held_back.Tie as tie
-use Rattle.tags.proofs.held_back.Reads as reads
-use Rattle.tags.proofs.held_back.Lts as lts
-use Rattle.tags.proofs.note_of.Reads as note-of-reads
 
 abbrev Inv-loop : tie.InvT-loop
 Inv-loop places v₀ i₀ v i = (length places ≡ 32) × (i ≤ 32) × (v ≡ gather bitOr noteAt (drop i places))

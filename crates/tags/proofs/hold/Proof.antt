@@ -3,8 +3,6 @@ use Rattle.tags.specs.Tags.{placed}
 use borrow.Author.Needs.{needs}
 use Rattle.tags.proofs.hold.Statement.{statement}
 use Rattle.tags.proofs.hold.Tie as tie
-use Rattle.tags.proofs.hold.Reads as reads
-use Rattle.tags.proofs.hold.Lts as lts
 
 cast-i : tie.Need-cast-i
 cast-i c = search needs

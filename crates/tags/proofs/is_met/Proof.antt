@@ -1,14 +1,7 @@
-use mathlib.Core.Path.{refl, sym, _∙_}
-use Rattle.lemmas.specs.Cases.{and-next, and-stop}
 use Rattle.tags.specs.Tags.{touches}
 use borrow.Author.Needs.{needs}
 use Rattle.tags.proofs.is_met.Statement.{statement}
 use Rattle.tags.proofs.is_met.Tie as tie
-use Rattle.tags.proofs.is_met.Reads as reads
-use Rattle.tags.proofs.is_met.Lts as lts
-use Rattle.span.proofs.meets.Reads as meets-reads
-use Rattle.tags.proofs.bytes_asked.Reads as bytes-asked-reads
-use Rattle.tags.proofs.range_of.Reads as range-of-reads
 
 enum-told : tie.Need-enum-told
 enum-told c = search needs

@@ -3,14 +3,10 @@ use Prim.Native.Nat.{ℕ, _+_, _-_, _≤_}
 use native.Mathlib.Omega.{arith}
 use lib.ListN.{length, drop}
 use Rattle.lemmas.specs.First.{firstAt, first-start, first-step, first-here, first-end}
-use Rattle.packet.specs.declared.Tag.{Tag}
 use Rattle.tags.specs.Tags.{freeAt, freeTag}
 use borrow.Author.Needs.{needs}
 use Rattle.tags.proofs.lowest_free.Statement.{statement}
 use Rattle.tags.proofs.lowest_free.Tie as tie
-use Rattle.tags.proofs.lowest_free.Reads as reads
-use Rattle.tags.proofs.lowest_free.Lts as lts
-use Rattle.tags.proofs.is_free.Reads as is-free-reads
 
 abbrev Inv-loop : tie.InvT-loop
 Inv-loop places i₀ i = (length places ≡ 32) × (i ≤ 32) × (firstAt freeAt places ≡ i + firstAt freeAt (drop i places))

@@ -1,10 +1,6 @@
 use borrow.Author.Needs.{needs}
 use Rattle.tags.proofs.mark.Statement.{statement}
 use Rattle.tags.proofs.mark.Tie as tie
-use Rattle.tags.proofs.mark.Reads as reads
-use Rattle.tags.proofs.mark.Lts as lts
-use Rattle.tags.proofs.awaited.Reads as awaited-reads
-use Rattle.tags.proofs.stale.Reads as stale-reads
 
 enum-told : tie.Need-enum-told
 enum-told c = search needs

@@ -1,9 +1,6 @@
 use borrow.Author.Needs.{needs}
 use Rattle.tags.proofs.out_of_date.Statement.{statement}
 use Rattle.tags.proofs.out_of_date.Tie as tie
-use Rattle.tags.proofs.out_of_date.Reads as reads
-use Rattle.tags.proofs.out_of_date.Lts as lts
-use Rattle.tags.proofs.stale.Reads as stale-reads
 
 enum-told : tie.Need-enum-told
 enum-told c = search needs

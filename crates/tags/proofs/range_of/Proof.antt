@@ -2,9 +2,6 @@ use Rattle.tags.specs.Tags.{rangeOf}
 use borrow.Author.Needs.{needs}
 use Rattle.tags.proofs.range_of.Statement.{statement}
 use Rattle.tags.proofs.range_of.Tie as tie
-use Rattle.tags.proofs.range_of.Reads as reads
-use Rattle.tags.proofs.range_of.Lts as lts
-use Rattle.span.proofs.run.Reads as run-reads
 
 run-requires : tie.Need-run-requires
 run-requires c κs = search needs

@@ -2,8 +2,6 @@ use Rattle.tags.specs.Itags.{isIn}
 use borrow.Author.Needs.{needs}
 use Rattle.tags.proofs.itags.has.Statement.{statement}
 use Rattle.tags.proofs.itags.has.Tie as tie
-use Rattle.tags.proofs.itags.has.Reads as reads
-use Rattle.tags.proofs.itags.has.Lts as lts
 
 cast-result : tie.Need-cast-result
 cast-result c = search needs

@@ -5,8 +5,6 @@ use Rattle.tags.specs.Itags.{joined}
 use borrow.Author.Needs.{needs}
 use Rattle.tags.proofs.itags.with.Statement.{statement}
 use Rattle.tags.proofs.itags.with.Tie as tie
-use Rattle.tags.proofs.itags.with.Reads as reads
-use Rattle.tags.proofs.itags.with.Lts as lts
 
 cast-result : tie.Need-cast-result
 cast-result c = search needs

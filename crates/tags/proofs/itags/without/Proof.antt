@@ -3,8 +3,6 @@ use Rattle.tags.specs.Itags.{without}
 use borrow.Author.Needs.{needs}
 use Rattle.tags.proofs.itags.without.Statement.{statement}
 use Rattle.tags.proofs.itags.without.Tie as tie
-use Rattle.tags.proofs.itags.without.Reads as reads
-use Rattle.tags.proofs.itags.without.Lts as lts
 
 sub-result : tie.Need-sub-result
 sub-result c = and-le-l _ _

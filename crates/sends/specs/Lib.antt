@@ -1,0 +1,4 @@
+pub mod Ask
+pub mod Access
+pub mod Drain
+pub mod PageRequests

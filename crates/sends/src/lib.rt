@@ -18,8 +18,8 @@ use pages::Pages;
 use replies::Rcb;
 use state::Agent;
 use state::Answer;
+use state::Effect;
 use state::Function;
-use state::Outcome;
 ghost use mathlib.Core.Path.{_≡_};
 ghost use mathlib.Core.Bool.{_||_};
 ghost use mathlib.Core.List.{[]};
@@ -108,14 +108,7 @@ fn further(units: u8) -> u8
     if units == 0 { 0 } else { units - 1 }
 }
 
-fn ask_with(
-    f: Function,
-    tag: Tag,
-    address: u64,
-    units: u8,
-    nowrite: bool,
-    out: &mut [u8],
-) -> Outcome
+fn ask_with(f: Function, tag: Tag, address: u64, units: u8, nowrite: bool, out: &mut [u8]) -> Effect
     ensures { λ r. ⌜ told r (now (out .exit)) ≡ ended f (now (out .entry)) (askFrom f tag address units nowrite (now (out .entry))) ⌝ }
 {
     let none: [u8; 0] = [0; 0];
@@ -124,7 +117,7 @@ fn ask_with(
         Writing::Written(n) => {
             let o = tags::asking(address, further(units));
             let answer = Answer::Opened(tag);
-            Outcome {
+            Effect {
                 state: state::with_place(f, tag, o),
                 answer,
                 sent: n,
@@ -135,7 +128,7 @@ fn ask_with(
 }
 
 // A Translation Request for N units from the one that holds an address.
-pub fn ask(f: Function, address: u64, units: u16, nowrite: bool, out: &mut [u8]) -> Outcome
+pub fn ask(f: Function, address: u64, units: u16, nowrite: bool, out: &mut [u8]) -> Effect
     ensures { λ r. ⌜ told r (now (out .exit)) ≡ ended f (now (out .entry)) (asking f address units nowrite (now (out .entry))) ⌝ }
 {
     if f.enabled {
@@ -268,7 +261,7 @@ fn read_from(
     words: u16,
     payload: &[u8],
     out: &mut [u8],
-) -> Outcome
+) -> Effect
     requires { ⌜ words ≤ 32 ⌝ }
     ensures { λ r. ⌜ told r (now (out .exit)) ≡ ended f (now (out .entry)) (readFrom f tag at address words (now (payload .entry)) (now (out .entry))) ⌝ }
 {
@@ -278,7 +271,7 @@ fn read_from(
         Writing::Written(n) => {
             let o = tags::reading(address, 4 * words, at.translated);
             let answer = Answer::Opened(tag);
-            Outcome {
+            Effect {
                 state: state::with_place(f, tag, o),
                 answer,
                 sent: n,
@@ -288,7 +281,7 @@ fn read_from(
     }
 }
 
-fn write_to(f: Function, at: Target, words: u16, payload: &[u8], out: &mut [u8]) -> Outcome
+fn write_to(f: Function, at: Target, words: u16, payload: &[u8], out: &mut [u8]) -> Effect
     ensures { λ r. ⌜ told r (now (out .exit)) ≡ ended f (now (out .entry)) (writeTo f at words (now (payload .entry)) (now (out .entry))) ⌝ }
 {
     let access = Access::Write;
@@ -296,7 +289,7 @@ fn write_to(f: Function, at: Target, words: u16, payload: &[u8], out: &mut [u8])
     match tlp::write_packet(p, payload, out) {
         Writing::Written(n) => {
             let answer = Answer::Done;
-            Outcome {
+            Effect {
                 state: f,
                 answer,
                 sent: n,
@@ -313,7 +306,7 @@ fn read_on_a_tag(
     words: u16,
     payload: &[u8],
     out: &mut [u8],
-) -> Outcome
+) -> Effect
     requires { ⌜ words ≤ 32 ⌝ }
     ensures { λ r. ⌜ told r (now (out .exit)) ≡ ended f (now (out .entry)) (going f Way.Read at address words (now (payload .entry)) (now (out .entry))) ⌝ }
 {
@@ -334,7 +327,7 @@ fn go(
     words: u16,
     payload: &[u8],
     out: &mut [u8],
-) -> Outcome
+) -> Effect
     requires { ⌜ words ≤ 32 ⌝ }
     ensures { λ r. ⌜ told r (now (out .exit)) ≡ ended f (now (out .entry)) (going f way at address words (now (payload .entry)) (now (out .entry))) ⌝ }
 {
@@ -352,7 +345,7 @@ pub fn access(
     words: u16,
     payload: &[u8],
     out: &mut [u8],
-) -> Outcome
+) -> Effect
     ensures { λ r. ⌜ told r (now (out .exit)) ≡ ended f (now (out .entry)) (accessing f way address words (now (payload .entry)) (now (out .entry))) ⌝ }
 {
     match look_up(f, way, address, words, payload.len()) {
@@ -393,7 +386,7 @@ pub fn ready(f: Function) -> u32
 }
 
 // One completion for a vector of ITags, if there are any.
-fn send_vector(mut f: Function, v: u32, out: &mut [u8]) -> Outcome
+fn send_vector(mut f: Function, v: u32, out: &mut [u8]) -> Effect
     ensures { λ r. ⌜ told r (now (out .exit)) ≡ ended f (now (out .entry)) (sendingVector f v (now (out .entry))) ⌝ }
 {
     if v == 0 {
@@ -406,7 +399,7 @@ fn send_vector(mut f: Function, v: u32, out: &mut [u8]) -> Outcome
         Writing::Written(n) => {
             f.waiting = tags::itags::without(f.waiting, v);
             let answer = Answer::Carried(u32::count_ones(v));
-            Outcome {
+            Effect {
                 state: f,
                 answer,
                 sent: n,
@@ -416,7 +409,7 @@ fn send_vector(mut f: Function, v: u32, out: &mut [u8]) -> Outcome
     }
 }
 
-pub fn drain(f: Function, out: &mut [u8]) -> Outcome
+pub fn drain(f: Function, out: &mut [u8]) -> Effect
     ensures { λ r. ⌜ told r (now (out .exit)) ≡ ended f (now (out .entry)) (draining f (now (out .entry))) ⌝ }
 {
     send_vector(f, ready(f), out)
@@ -465,7 +458,7 @@ fn with_request(p: Pages, q: PageRequest) -> Pages
     }
 }
 
-fn send_page(f: Function, q: PageRequest, out: &mut [u8]) -> Outcome
+fn send_page(f: Function, q: PageRequest, out: &mut [u8]) -> Effect
     ensures { λ r. ⌜ told r (now (out .exit)) ≡ ended f (now (out .entry)) (sending (withPages f (requested (f .pages) q)) done (pageOf (f .id) q) [] (now (out .entry))) ⌝ }
 {
     let none: [u8; 0] = [0; 0];
@@ -475,7 +468,7 @@ fn send_page(f: Function, q: PageRequest, out: &mut [u8]) -> Outcome
             let pages = f.pages;
             let next = with_request(pages, q);
             let answer = Answer::Done;
-            Outcome {
+            Effect {
                 state: state::with_pages(f, next),
                 answer,
                 sent: n,
@@ -485,7 +478,7 @@ fn send_page(f: Function, q: PageRequest, out: &mut [u8]) -> Outcome
     }
 }
 
-fn request_page(f: Function, q: PageRequest, out: &mut [u8]) -> Outcome
+fn request_page(f: Function, q: PageRequest, out: &mut [u8]) -> Effect
     ensures { λ r. ⌜ told r (now (out .exit)) ≡ ended f (now (out .entry)) (requestingOn f q (now (out .entry))) ⌝ }
 {
     if is_asked(q) {
@@ -503,7 +496,7 @@ fn request_page(f: Function, q: PageRequest, out: &mut [u8]) -> Outcome
     }
 }
 
-pub fn page_request(f: Function, q: PageRequest, out: &mut [u8]) -> Outcome
+pub fn page_request(f: Function, q: PageRequest, out: &mut [u8]) -> Effect
     ensures { λ r. ⌜ told r (now (out .exit)) ≡ ended f (now (out .entry)) (requesting f q (now (out .entry)) (f .pages .interface)) ⌝ }
 {
     let pages = f.pages;

@@ -9,7 +9,7 @@ use Rattle.packet.specs.Writing.{writing, bytesOf, after}
 use Rattle.state.specs.declared.Function.{Function}
 use Rattle.state.specs.declared.Answer.{Answer}
 use Rattle.state.specs.declared.Answer.the-variants.{Done, Opened, Carried, Discarded, More, Filled, Aborted, SwitchedOff, PayloadMore, PayloadLast, ReadFailed, Refused}
-use Rattle.state.specs.declared.Outcome.{Outcome}
+use Rattle.state.specs.declared.Effect.{Effect}
 
 -- the words for calls that are not refused: a tag, a count, or a phrase
 pub data Word : Type 0 where
@@ -60,13 +60,13 @@ ended f out (gives d) = record { state = d .state; says = gives (d .word); sent 
 ended f out (number n) = record { state = f; says = number n; sent = 0; buffer = out }
 
 -- what the code's answer says, with the buffer as it stands then
-abbrev pub told : Outcome → List ℕ → Result
+abbrev pub told : Effect → List ℕ → Result
 told r out = record { state = r .state; says = paper (r .answer); sent = r .sent; buffer = out }
 
-abbrev pub refusedWith : Function → Refusal → Outcome
+abbrev pub refusedWith : Function → Refusal → Effect
 refusedWith f r = record { state = f; answer = Refused r; sent = 0 }
 
-abbrev pub plain : Function → Answer → Outcome
+abbrev pub plain : Function → Answer → Effect
 plain f a = record { state = f; answer = a; sent = 0 }
 
 -- a call that sends nothing

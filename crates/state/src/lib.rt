@@ -49,17 +49,17 @@ pub enum Answer {
 }
 
 // The state after a call, its answer, and the length of the packet that it sent, or 0.
-pub struct Outcome {
+pub struct Effect {
     pub state: Function,
     pub answer: Answer,
     pub sent: usize,
 }
 
-pub fn refused(f: Function, r: Refusal) -> Outcome
+pub fn refused(f: Function, r: Refusal) -> Effect
     ensures { λ o. ⌜ o ≡ refusedWith f r ⌝ }
 {
     let answer = Answer::Refused(r);
-    Outcome {
+    Effect {
         state: f,
         answer,
         sent: 0,
@@ -67,10 +67,10 @@ pub fn refused(f: Function, r: Refusal) -> Outcome
 }
 
 // A call that sends nothing.
-pub fn answered(f: Function, answer: Answer) -> Outcome
+pub fn answered(f: Function, answer: Answer) -> Effect
     ensures { λ o. ⌜ o ≡ plain f answer ⌝ }
 {
-    Outcome {
+    Effect {
         state: f,
         answer,
         sent: 0,
@@ -117,7 +117,7 @@ fn rcb_of(bytes: u8) -> Rcb
     if bytes == 128 { Rcb::B128 } else { Rcb::B64 }
 }
 
-pub fn reset(f: Function, id: u16, stu: u8, rcb: u8) -> Outcome
+pub fn reset(f: Function, id: u16, stu: u8, rcb: u8) -> Effect
     ensures { λ r. ⌜ told r [] ≡ ended f [] (resetting id stu rcb) ⌝ }
 {
     if 31 < stu {
@@ -132,7 +132,7 @@ pub fn reset(f: Function, id: u16, stu: u8, rcb: u8) -> Outcome
 }
 
 // E goes from clear to set: the cache is emptied and open Translation Requests are out of date.
-pub fn enable(mut f: Function) -> Outcome
+pub fn enable(mut f: Function) -> Effect
     ensures { λ r. ⌜ told r [] ≡ ended f [] (enabling f) ⌝ }
 {
     if f.enabled {
@@ -148,7 +148,7 @@ pub fn enable(mut f: Function) -> Outcome
     answered(f, Answer::Done)
 }
 
-pub fn disable(mut f: Function) -> Outcome
+pub fn disable(mut f: Function) -> Effect
     ensures { λ r. ⌜ told r [] ≡ ended f [] (disabling f) ⌝ }
 {
     f.enabled = false;
@@ -173,7 +173,7 @@ pub fn with_pages(mut f: Function, pages: Pages) -> Function
     f
 }
 
-fn switch_on(f: Function, allocation: u16) -> Outcome
+fn switch_on(f: Function, allocation: u16) -> Effect
     ensures { λ r. ⌜ told r [] ≡ ended f [] (switchingOn f allocation Interface.Off) ⌝ }
 {
     if is_granted(allocation) {
@@ -184,7 +184,7 @@ fn switch_on(f: Function, allocation: u16) -> Outcome
     }
 }
 
-pub fn pages_on(f: Function, allocation: u16) -> Outcome
+pub fn pages_on(f: Function, allocation: u16) -> Effect
     ensures { λ r. ⌜ told r [] ≡ ended f [] (switchingOn f allocation (f .pages .interface)) ⌝ }
 {
     let pages = f.pages;
@@ -196,7 +196,7 @@ pub fn pages_on(f: Function, allocation: u16) -> Outcome
     }
 }
 
-pub fn pages_off(f: Function) -> Outcome
+pub fn pages_off(f: Function) -> Effect
     ensures { λ r. ⌜ told r [] ≡ ended f [] (switchingOff f (f .pages .interface)) ⌝ }
 {
     let pages = f.pages;

@@ -1,0 +1,52 @@
+-- Invalidate Request. 01, "The Function's tables".
+use mathlib.Core.Bool.{Bool, true}
+use Prim.Native.Nat.{ℕ}
+use lib.Dec.{eqb}
+use Rattle.span.specs.declared.Range.{Range}
+use Rattle.span.specs.declared.Size.{Size}
+use Rattle.span.specs.declared.Size.the-variants.{Exponent, NoSize}
+use Rattle.span.specs.Size.{sizeOf}
+use Rattle.span.specs.Range.{unitExponent, roundedOf}
+use Rattle.packet.specs.declared.InvalidateRequest.{InvalidateRequest}
+use Rattle.packet.specs.Numbers.{Said, refuse, demand}
+use Rattle.atc.specs.declared.Cache.{Cache}
+use Rattle.atc.specs.Cache.{spanDropped}
+use Rattle.tags.specs.Itags.{isIn, joined}
+use Rattle.tags.specs.Tags.{snooped}
+use Rattle.state.specs.declared.Agent.{Agent}
+use Rattle.state.specs.declared.Agent.the-variants.{Unknown, Known}
+use Rattle.state.specs.declared.Function.{Function}
+use Rattle.state.specs.State.{remade}
+use Rattle.state.specs.Answers.{Deed, done, plainly}
+
+-- every body that was read has a size; where there were none, all that is cached would be old
+abbrev pub exponentOf : Size → ℕ
+exponentOf (Exponent e) = e
+exponentOf NoSize = 64
+
+-- the range of a request, rounded up to the unit
+unfoldable pub snoopRange : ℕ → InvalidateRequest → Range
+snoopRange stu i = roundedOf (i .address) (exponentOf (sizeOf (i .address) (i .sized))) (unitExponent stu)
+
+-- the agent, or anyone while there is none
+abbrev pub isAgent : Agent → ℕ → Bool
+isAgent Unknown from = true
+isAgent (Known id) from = eqb id from
+
+abbrev pub cut : Cache → ℕ → Range → Cache
+cut c stu range = record { hand = c .hand; slots = spanDropped stu range (c .slots) }
+
+-- overlapping entries are deleted, overlapping requests marked stale, overlapping translated reads noted; the ITag waits, and the sender is the agent
+abbrev pub snoopedBy : Function → ℕ → InvalidateRequest → Function
+snoopedBy f from i =
+    remade f (f .enabled) (Known from) (joined (f .waiting) (i .itag))
+    (cut (f .cache) (f .stu) (snoopRange (f .stu) i))
+    (snooped (f .stu) (snoopRange (f .stu) i) (i .itag) (f .places))
+    (f .pages)
+
+-- 10, 9
+unfoldable pub invalidated : Function → ℕ → InvalidateRequest → Said Deed
+invalidated f from i =
+    demand 10 (isAgent (f .agent) from)
+    (refuse 9 (isIn (f .waiting) (i .itag))
+    (plainly (snoopedBy f from i) done))

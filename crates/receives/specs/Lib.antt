@@ -1,0 +1,5 @@
+pub mod Reads
+pub mod Translations
+pub mod Invalidate
+pub mod Responses
+pub mod Receive

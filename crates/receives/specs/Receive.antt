@@ -1,0 +1,50 @@
+-- Receiving. 01, "The Function's tables" and "The seventeen numbers": reading, 2 (kind), 5, then 7, 8 or 10, 9.
+use mathlib.Core.List.{List}
+use Prim.Native.Nat.{ℕ}
+use lib.Dec.{eqb}
+use lib.ListN.{length}
+use Rattle.packet.specs.declared.Body.{Body}
+use Rattle.packet.specs.declared.Body.the-variants.{Tr, Mem, Cpl, Inv, Ic, Prq, Prs}
+use Rattle.packet.specs.declared.Completion.{Completion}
+use Rattle.packet.specs.declared.Outcome.{Outcome}
+use Rattle.packet.specs.declared.Outcome.the-variants.{Data, Status}
+use Rattle.packet.specs.declared.Packet.{Packet}
+use Rattle.packet.specs.Numbers.{Said, gives, number, demand}
+use Rattle.packet.specs.Reading.{reading, payloadIn}
+use Rattle.tags.specs.declared.Open.{Open}
+use Rattle.tags.specs.declared.Open.the-variants.{Free, Ask, Read}
+use Rattle.tags.specs.Tags.{heldAt}
+use Rattle.state.specs.declared.Function.{Function}
+use Rattle.state.specs.Answers.{Deed}
+use Rattle.receives.specs.Reads.{fetched, unfetched}
+use Rattle.receives.specs.Translations.{translated, untranslated}
+use Rattle.receives.specs.Invalidate.{invalidated}
+use Rattle.receives.specs.Responses.{responded}
+
+-- what a completion says to an open tag
+abbrev pub completedFor : Function → Completion → List ℕ → Outcome → Open → Said Deed
+completedFor f c load outcome Free = number 7
+completedFor f c load (Data words) (Ask q) = translated f (c .tag) q (c .count) (c .lower) load
+completedFor f c load (Status status) (Ask q) = untranslated f (c .tag) status
+completedFor f c load (Data words) (Read r) = fetched f (c .tag) r (c .count) (length load)
+completedFor f c load (Status status) (Read r) = unfetched f (c .tag) status
+
+unfoldable pub completed : Function → Completion → List ℕ → Said Deed
+completed f c load = completedFor f c load (c .outcome) (heldAt (f .places) (c .tag))
+
+-- the kinds that the Function takes, if they are for it
+unfoldable pub taken : Function → ℕ → List ℕ → Body → Said Deed
+taken f from load (Tr t) = number 2
+taken f from load (Mem m) = number 2
+taken f from load (Cpl c) = demand 5 (eqb (c .requester) (f .id)) (completed f c load)
+taken f from load (Inv i) = demand 5 (eqb (i .device) (f .id)) (invalidated f from i)
+taken f from load (Ic i) = number 2
+taken f from load (Prq q) = number 2
+taken f from load (Prs s) = demand 5 (eqb (s .device) (f .id)) (responded f (s .code) (s .index) (f .pages .interface))
+
+abbrev pub takenIf : Function → List ℕ → Said Packet → Said Deed
+takenIf f load (gives p) = taken f (p .head .sender) load (p .body)
+takenIf f load (number n) = number n
+
+unfoldable pub received : Function → List ℕ → Said Deed
+received f b = takenIf f (payloadIn b) (reading b)

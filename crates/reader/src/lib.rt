@@ -57,7 +57,8 @@ pub fn read_packet(b: &[u8]) -> Reading
     }
 }
 
-fn part_from(b: &[u8], n: usize) -> &[u8]
+// A packet from byte n on, no copy; nothing where it is shorter.
+pub fn part_from(b: &[u8], n: usize) -> &[u8]
     ensures { λ r. ⌜ now r ≡ drop n (now (b .entry)) ⌝ }
 {
     if n <= b.len() { &b[n..] } else { &b[..0] }

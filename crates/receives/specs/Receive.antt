@@ -1,8 +1,9 @@
 -- Receiving. 01, "The Function's tables" and "The seventeen numbers": reading, 2 (kind), 5, then 7, 8 or 10, 9.
-use mathlib.Core.List.{List}
+use mathlib.Core.Bool.{Bool, true, false, cond}
+use mathlib.Core.List.{List, []}
 use Prim.Native.Nat.{ℕ}
 use lib.Dec.{eqb}
-use lib.ListN.{length}
+use lib.ListN.{length, drop}
 use Rattle.packet.specs.declared.Body.{Body}
 use Rattle.packet.specs.declared.Body.the-variants.{Tr, Mem, Cpl, Inv, Ic, Prq, Prs}
 use Rattle.packet.specs.declared.Completion.{Completion}
@@ -15,7 +16,7 @@ use Rattle.tags.specs.declared.Open.{Open}
 use Rattle.tags.specs.declared.Open.the-variants.{Free, Ask, Read}
 use Rattle.tags.specs.Tags.{heldAt}
 use Rattle.state.specs.declared.Function.{Function}
-use Rattle.state.specs.Answers.{Deed}
+use Rattle.state.specs.Answers.{Word, done, tag, carries, discarded, more, filled, aborted, switchedOff, payloadMore, payloadLast, readFailed, Deed, ended}
 use Rattle.receives.specs.Reads.{fetched, unfetched}
 use Rattle.receives.specs.Translations.{translated, untranslated}
 use Rattle.receives.specs.Invalidate.{invalidated}
@@ -48,3 +49,22 @@ takenIf f load (number n) = number n
 
 unfoldable pub received : Function → List ℕ → Said Deed
 received f b = takenIf f (payloadIn b) (reading b)
+
+-- is this what a completion that brings a read's bytes answers?
+abbrev pub isPayload : Said Word → Bool
+isPayload (gives done) = false
+isPayload (gives (tag t)) = false
+isPayload (gives (carries n)) = false
+isPayload (gives discarded) = false
+isPayload (gives more) = false
+isPayload (gives filled) = false
+isPayload (gives aborted) = false
+isPayload (gives switchedOff) = false
+isPayload (gives payloadMore) = true
+isPayload (gives payloadLast) = true
+isPayload (gives readFailed) = false
+isPayload (number n) = false
+
+-- the payload handed back: the packet from byte 12 on where receiving it answers payload, else nothing
+unfoldable pub handedBack : Function → List ℕ → List ℕ
+handedBack f b = cond (isPayload (ended f [] (received f b) .says)) (drop 12 b) []

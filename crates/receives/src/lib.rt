@@ -28,14 +28,14 @@ ghost use lib.Dec.{eqb};
 ghost use lib.ListN.{length};
 ghost use Rattle.packet.specs.Numbers.{demand};
 ghost use Rattle.state.specs.State.{withPlace, withEnable, withTables};
-ghost use Rattle.state.specs.Answers.{told, ended};
+ghost use Rattle.state.specs.Answers.{told, ended, paper};
 ghost use Rattle.pages.specs.Pages.{isIndex, isWaiting};
 ghost use Rattle.replies.specs.Fills.{applied};
 ghost use Rattle.receives.specs.Reads.{stillDue, fetched, unfetched};
 ghost use Rattle.receives.specs.Translations.{untranslated, translatedAs, translated};
 ghost use Rattle.receives.specs.Invalidate.{exponentOf, snoopRange, isAgent, cut, snoopedBy, invalidated};
 ghost use Rattle.receives.specs.Responses.{answeredIn, respondedOn, responded};
-ghost use Rattle.receives.specs.Receive.{completedFor, completed, taken, received};
+ghost use Rattle.receives.specs.Receive.{completedFor, completed, taken, received, isPayload, handedBack};
 
 fn free(f: Function, t: Tag) -> Function
     ensures { λ r. ⌜ r ≡ withPlace f t Open.Free ⌝ }
@@ -377,5 +377,38 @@ pub fn receive(f: Function, b: &[u8]) -> Effect
             take(f, p.head.sender, load, body)
         }
         Reading::Refused(r) => state::refused(f, r),
+    }
+}
+
+fn is_payload(a: Answer) -> bool
+    ensures { λ r. ⌜ r ≡ isPayload (paper a) ⌝ }
+{
+    match a {
+        Answer::Done => false,
+        Answer::Opened(_) => false,
+        Answer::Carried(_) => false,
+        Answer::Discarded => false,
+        Answer::More => false,
+        Answer::Filled => false,
+        Answer::Aborted => false,
+        Answer::SwitchedOff => false,
+        Answer::PayloadMore => true,
+        Answer::PayloadLast => true,
+        Answer::ReadFailed => false,
+        Answer::Refused(_) => false,
+    }
+}
+
+// The payload that a packet brings for a read: the packet's own bytes from byte 12 on, exactly
+// where `receive` on this state and packet answers payload; else none.
+pub fn read_payload(f: Function, b: &[u8]) -> &[u8]
+    ensures { λ r. ⌜ now r ≡ handedBack f (now (b .entry)) ⌝ }
+{
+    let e = receive(f, b);
+    let answer = e.answer;
+    if is_payload(answer) {
+        tlp::part_from(b, 12)
+    } else {
+        tlp::part_from(b, b.len())
     }
 }

@@ -1,9 +1,10 @@
 -- What closes a `return` of a call: the tests that led there say which case of its definition holds.
-use mathlib.Core.Path.{_≡_, sym, ap, _∙_}
+use mathlib.Core.Path.{_≡_, refl, sym, ap, _∙_}
 use mathlib.Core.Bool.{Bool, true, false, cond}
-use mathlib.Core.List.{List}
+use mathlib.Core.List.{List, [], _∷_, _++_}
 use Prim.Native.Nat.{ℕ}
-use lib.ListN.{length}
+use native.Mathlib.Omega.{arith}
+use lib.ListN.{length, drop}
 use borrow.Author.Tests.{lt-ltb, le-ltb, le-leb, lt-leb, eq-eqb, ne-eqb}
 use Rattle.packet.specs.declared.Packet.{Packet}
 use Rattle.packet.specs.Numbers.{Said, gives, number}
@@ -29,3 +30,15 @@ module _ (f : Function) (out : List ℕ) where
     end-unsent n e = rw (b, ← e)
 
 pub ruleset ends = (end-take, end-skip, lt-ltb, le-ltb, le-leb, lt-leb, eq-eqb, ne-eqb)
+
+-- a call that was given no buffer sends nothing, and leaves any buffer as it is
+pub quiet : (f g : Function) (w : Said Word) (n : ℕ) (out : List ℕ) (s : Said Deed)
+    → record { state = g; says = w; sent = n; buffer = [] } ≡ ended f [] s → record { state = g; says = w; sent = n; buffer = out } ≡ ended f out s
+quiet f g w n out (number k) q = ap (λ (r : Result). record { state = r .state; says = r .says; sent = r .sent; buffer = out }) q
+quiet f g w n out (gives d) q =
+    let none : d .bytes ≡ [] = bare (d .bytes) (sym (ap (λ (r : Result). r .buffer) q)) in
+    ap (λ (r : Result). record { state = r .state; says = r .says; sent = r .sent; buffer = out }) q ∙ rw none
+  where
+    bare : (l : List ℕ) → l ++ drop (length l) [] ≡ [] → l ≡ []
+    bare [] b = refl
+    bare (x ∷ l) b = let z : _≡_ {A = ℕ} 0 1 = cc in absurd (omega arith)

@@ -21,6 +21,7 @@ pub use packet::Tag;
 pub use packet::TranslationRequest;
 pub use packet::Writing;
 pub use packet::number;
+pub use reader::part_from;
 pub use reader::payload;
 pub use reader::read_packet;
 pub use span::Range;

@@ -1,0 +1,31 @@
+-- One definition over all calls.
+use mathlib.Core.List.{List}
+use Prim.Native.Nat.{ℕ}
+use Rattle.packet.specs.Numbers.{Said}
+use Rattle.state.specs.declared.Function.{Function}
+use Rattle.state.specs.Answers.{Deed, Result, ended}
+use Rattle.state.specs.Switches.{resetting, enabling, disabling, switchingOn, switchingOff}
+use Rattle.sends.specs.Ask.{asking}
+use Rattle.sends.specs.Access.{accessing}
+use Rattle.sends.specs.Drain.{draining}
+use Rattle.sends.specs.PageRequests.{requesting}
+use Rattle.receives.specs.Receive.{received}
+use Rattle.card.specs.declared.Command.{Command}
+use Rattle.card.specs.declared.Command.the-variants.{Reset, Enable, Disable, Ask, Access, Receive, Drain, PagesOn, PagesOff, PageRequest}
+
+-- what a call does: bytes is the packet received or the payload handed in, out the lent buffer
+unfoldable pub calling : Function → Command → List ℕ → List ℕ → Said Deed
+calling f (Reset a) bytes out = resetting (a .id) (a .stu) (a .rcb)
+calling f Enable bytes out = enabling f
+calling f Disable bytes out = disabling f
+calling f (Ask a) bytes out = asking f (a .address) (a .units) (a .nowrite) out
+calling f (Access a) bytes out = accessing f (a .way) (a .address) (a .words) bytes out
+calling f Receive bytes out = received f bytes
+calling f Drain bytes out = draining f out
+calling f (PagesOn allocation) bytes out = switchingOn f allocation (f .pages .interface)
+calling f PagesOff bytes out = switchingOff f (f .pages .interface)
+calling f (PageRequest q) bytes out = requesting f q out (f .pages .interface)
+
+-- and what is seen of it
+abbrev pub step : Function → Command → List ℕ → List ℕ → Result
+step f c bytes out = ended f out (calling f c bytes out)

@@ -1,0 +1,90 @@
+// The Function as its users see it: every call, and the one entry over them all.
+pub use packet::ITag;
+pub use packet::PageRequest;
+pub use packet::PrgIndex;
+pub use packet::Refusal;
+pub use packet::Tag;
+pub use packet::number;
+pub use receives::read_payload;
+pub use receives::receive;
+pub use replies::Rcb;
+pub use sends::Goes;
+pub use sends::Target;
+pub use sends::Way;
+pub use sends::access;
+pub use sends::ask;
+pub use sends::drain;
+pub use sends::look_up;
+pub use sends::page_request;
+pub use sends::ready;
+pub use state::Agent;
+pub use state::Answer;
+pub use state::Effect;
+pub use state::Function;
+pub use state::disable;
+pub use state::enable;
+pub use state::new;
+pub use state::pages_off;
+pub use state::pages_on;
+pub use state::reset;
+ghost use mathlib.Core.Path.{_≡_};
+ghost use Rattle.state.specs.Answers.{told};
+ghost use Rattle.card.specs.Call.{step};
+
+pub struct Resetting {
+    pub id: u16,
+    pub stu: u8,
+    pub rcb: u8,
+}
+
+pub struct Asking {
+    pub address: u64,
+    pub units: u16,
+    pub nowrite: bool,
+}
+
+pub struct Accessing {
+    pub way: Way,
+    pub address: u64,
+    pub words: u16,
+}
+
+// A call with its arguments. The bytes of a packet that is received, or of an access's payload,
+// come beside it.
+pub enum Command {
+    Reset(Resetting),
+    Enable,
+    Disable,
+    Ask(Asking),
+    Access(Accessing),
+    Receive,
+    Drain,
+    PagesOn(u16),
+    PagesOff,
+    PageRequest(PageRequest),
+}
+
+fn reach(f: Function, a: Accessing, bytes: &[u8], out: &mut [u8]) -> Effect
+    ensures { λ r. ⌜ told r (now (out .exit)) ≡ step f (Command.Access a) (now (bytes .entry)) (now (out .entry)) ⌝ }
+{
+    let way = a.way;
+    access(f, way, a.address, a.words, bytes, out)
+}
+
+// Any call on any state.
+pub fn call(f: Function, c: Command, bytes: &[u8], out: &mut [u8]) -> Effect
+    ensures { λ r. ⌜ told r (now (out .exit)) ≡ step f c (now (bytes .entry)) (now (out .entry)) ⌝ }
+{
+    match c {
+        Command::Reset(a) => reset(f, a.id, a.stu, a.rcb),
+        Command::Enable => enable(f),
+        Command::Disable => disable(f),
+        Command::Ask(a) => ask(f, a.address, a.units, a.nowrite, out),
+        Command::Access(a) => reach(f, a, bytes, out),
+        Command::Receive => receive(f, bytes),
+        Command::Drain => drain(f, out),
+        Command::PagesOn(allocation) => pages_on(f, allocation),
+        Command::PagesOff => pages_off(f),
+        Command::PageRequest(q) => page_request(f, q, out),
+    }
+}

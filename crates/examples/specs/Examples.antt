@@ -5,11 +5,11 @@ use mathlib.Core.List.{List, [], _∷_, _++_}
 use Prim.Native.Nat.{ℕ, _^_}
 use Rattle.packet.specs.declared.Packet.{Packet}
 use Rattle.packet.specs.declared.Body.the-variants.{Tr, Inv, Ic, Prq}
-use Rattle.packet.specs.Numbers.{gives, number}
+use Rattle.packet.specs.Numbers.{gives, number, Said}
 use Rattle.packet.specs.Frames.{frameOf, four}
 use Rattle.packet.specs.Forms.{choose}
 use Rattle.packet.specs.Kinds.{bodyIn, shaped, allowedBody, withinBody, loadOf, formOf, framed}
-use Rattle.packet.specs.Reading.{readForm, reading}
+use Rattle.packet.specs.Reading.{readForm, reading, payloadIn, wordAt}
 use Rattle.packet.specs.Writing.{bytesOf, writing}
 use Rattle.lister.specs.Line.{lineRead, lineText}
 use Rattle.rows.specs.Rows.{outLine}
@@ -17,8 +17,33 @@ use Rattle.text.specs.Digits.{allHex, unhex, decimal, decimalIn}
 use Rattle.span.specs.declared.Translation.{Translation}
 use Rattle.span.specs.declared.Size.{Size}
 use Rattle.span.specs.declared.Size.the-variants.{Exponent, NoSize}
-use Rattle.span.specs.Range.{regionOf}
+use Rattle.span.specs.Range.{regionOf, roundedOf, reachOf, runOf, movedTo}
 use Rattle.span.specs.Size.{lowestZero, sizeOf, bytesCoded, translationOf}
+use lib.ListN.{replicate}
+use Rattle.lemmas.specs.First.{firstAt}
+use Rattle.lemmas.specs.Run.{runTo}
+use Rattle.lemmas.specs.All.{allTo}
+use Rattle.tlp.specs.Translations.{translationAt}
+use Rattle.atc.specs.Cache.{found, filled as put, unitDropped, spanDropped}
+use Rattle.tags.specs.declared.Open.the-variants.{Ask as Held}
+use Rattle.tags.specs.Itags.{isIn, joined}
+use Rattle.tags.specs.Tags.{freeTag, heldAt, placed, rangeOf, bytesAsked, touches, snooped as marks, allStaled}
+use Rattle.replies.specs.declared.Rcb.the-variants.{B64}
+use Rattle.replies.specs.Fits.{onBoundary, firstPart, partOf, sizeOfAll, beginsIn, cameOf, fitsAt, allFit, sizeFits, judged}
+use Rattle.replies.specs.Fills.{unitFilled, covered, unitStep, applied}
+use Rattle.state.specs.declared.Function.{Function}
+use Rattle.state.specs.State.{fresh}
+use Rattle.state.specs.Answers.{Word, tag, sending}
+use Rattle.state.specs.Switches.{resetting, enabling}
+use Rattle.sends.specs.declared.Way.the-variants.{Read as ToRead}
+use Rattle.sends.specs.Ask.{isBelowTop, isAskable, asking}
+use Rattle.sends.specs.Access.{lookingUp, accessing}
+use Rattle.receives.specs.Translations.{settled, translated}
+use Rattle.receives.specs.Invalidate.{snoopRange, invalidated}
+use Rattle.receives.specs.Receive.{completed, taken, received}
+use Rattle.card.specs.declared.Command.{Command}
+use Rattle.card.specs.declared.Command.the-variants.{Reset, Enable, Ask, Access, Receive}
+use Rattle.card.specs.Call.{calling, step}
 
 -- an example says that two things are equal
 record Example : Type 1 where
@@ -69,6 +94,37 @@ shown1 = 49 ∷ 9 ∷ 84 ∷ 82 ∷ 9 ∷ 48 ∷ 49 ∷ 48 ∷ 48 ∷ 9 ∷ 53 �
 abbrev shown2 : List ℕ
 shown2 = 50 ∷ 9 ∷ 73 ∷ 67 ∷ 9 ∷ 48 ∷ 49 ∷ 48 ∷ 48 ∷ 9 ∷ 56 ∷ 48 ∷ 48 ∷ 48 ∷ 48 ∷ 48 ∷ 48 ∷ 49 ∷ 10 ∷ []
 
+-- ---- runs of calls on a new Function, each with the bytes beside it and a buffer of 16 bytes
+
+abbrev buffer : List ℕ
+buffer = replicate 16 0
+
+abbrev after : Function → List (Command × List ℕ) → Function
+after f [] = f
+after f (c ∷ cs) = after (step f (c .0) (c .1) buffer .state) cs
+
+-- what a call answers
+abbrev says : Function → Command → List ℕ → Said Word
+says f c bytes = step f c bytes buffer .says
+
+abbrev started : ℕ → Function
+started stu = after (fresh 0 0 B64) ((Reset (record { id = 0x0100; stu = stu; rcb = 64 }), []) ∷ (Enable, []) ∷ [])
+
+abbrev ask : ℕ → ℕ → Command
+ask address units = Ask (record { address = address; units = units; nowrite = false })
+
+-- a completion for tag 0 of Function 0100h with one translation, Byte Count 8, Lower Address 56
+abbrev reply : ℕ → ℕ → List ℕ
+reply high low = four 0x4A00_0002 ++ four 0x0008_0008 ++ four 0x0100_0038 ++ four high ++ four low
+
+-- example 4: 203000h asked for at STU 0, and answered by 2 MiB at 4000 0000h with R and W
+abbrev filled : Function
+filled = after (started 0) ((ask 0x203000 1, []) ∷ (Receive, reply 0 0x400F_F803) ∷ [])
+
+-- example 5: 2 units from 0FFF FFFF C000h at STU 2, then an Invalidate Request
+abbrev snooped : Function
+snooped = after (started 2) ((ask 0x0FFF_FFFF_C000 2, []) ∷ (Receive, invalidate 0x0000_1000 0x0000_1800) ∷ [])
+
 abbrev examples : List Example
 examples =
     -- 1: the body of a request, and a translation: 8192 bytes at 0; 16384 at 0
@@ -84,6 +140,13 @@ examples =
     ∷ translationOf 0x7FFF_FFFF_FFFF_F800 is plain 0 (Exponent 64)
     ∷ reading (invalidate 0xFFFF_FFFF 0xFFFF_F800) is number 4
     ∷ translationOf 0xFFFF_FFFF_FFFF_F800 is plain 0 NoSize
+    -- 3: 4096 bytes at 3000h, rounded up to a unit of 8192
+    ∷ snoopRange 1 (record { itag = record { 0 = 0 }; device = 0x0100; address = 0x3000; sized = false }) is record { first = 0x2000; last = 0x3FFF }
+    -- 4: one unit of a large page is cached, and no other
+    ∷ lookingUp filled ToRead 0x203000 1 0 is gives (record { address = 0x4000_3000; translated = true })
+    ∷ says filled (Access (record { way = ToRead; address = 0x204000; words = 1 })) [] is number 13
+    -- 5: the second of two units makes the request stale
+    ∷ heldAt (snooped .places) (record { 0 = 0 }) is Held (record { address = 0x0FFF_FFFF_C000; further = 1; stale = true; size = 0; whole = 0; due = 0 })
     -- 6: lines 1 and 2 of the listing
     ∷ reading (four 0x0000_0402 ++ four 0x0100_05FF ++ four 0x0020_3000) is gives (record { head = record { tc = 0; sender = 0x0100 }; body = Tr (record { tag = record { 0 = 5 }; words = 2; address = 0x203000; nowrite = false }) })
     ∷ reading (four 0x3200_0000 ++ four 0x0100_0002 ++ four 0x0008_0001 ++ four 0x8000_0001) is gives (record { head = record { tc = 0; sender = 0x0100 }; body = Ic (record { device = 0x0008; cc = 1; vector = 0x8000_0001 }) })
@@ -92,8 +155,11 @@ examples =
     -- 7: a page request, byte for byte
     ∷ bytesOf pageRequest [] is (four 0x3000_0000 ++ four 0x0100_0004 ++ four 0 ++ four 0x0020_301D)
     ∷ writing pageRequest 0 16 is gives 16
+    -- 8: the last unit below 2 ^ 64 can be asked for, two from there on cannot
+    ∷ says (started 0) (ask 0xFFFF_FFFF_FFFF_F000 1) [] is gives (tag 0)
+    ∷ says (started 0) (ask 0xFFFF_FFFF_FFFF_F000 2) [] is number 12
     ∷ []
 
 pub examples-hold : Hold examples
-unfolding lowestZero sizeOf bytesCoded translationOf regionOf frameOf choose bodyIn shaped allowedBody withinBody loadOf formOf framed readForm reading bytesOf writing allHex unhex decimal decimalIn lineRead lineText outLine
-examples-hold = (refl, (refl, (refl, (refl, (refl, (refl, (refl, (refl, (refl, (refl, (refl, (refl, (refl, (refl, (refl, (refl, (refl, tt)))))))))))))))))
+unfolding lowestZero sizeOf bytesCoded translationOf regionOf frameOf choose bodyIn shaped allowedBody withinBody loadOf formOf framed readForm reading bytesOf writing allHex unhex decimal decimalIn lineRead lineText outLine firstAt runTo allTo roundedOf reachOf runOf movedTo payloadIn wordAt translationAt found put unitDropped spanDropped isIn joined freeTag heldAt placed rangeOf bytesAsked touches marks allStaled onBoundary firstPart partOf sizeOfAll beginsIn cameOf fitsAt allFit sizeFits judged unitFilled covered unitStep applied sending resetting enabling isBelowTop isAskable asking lookingUp accessing settled translated snoopRange invalidated completed taken received calling
+examples-hold = (refl, (refl, (refl, (refl, (refl, (refl, (refl, (refl, (refl, (refl, (refl, (refl, (refl, (refl, (refl, (refl, (refl, (refl, (refl, (refl, (refl, (refl, (refl, tt)))))))))))))))))))))))

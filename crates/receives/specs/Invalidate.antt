@@ -1,5 +1,5 @@
 -- Invalidate Request. 01, "The Function's tables".
-use mathlib.Core.Bool.{Bool, true}
+use mathlib.Core.Bool.{Bool, false, not}
 use Prim.Native.Nat.{ℕ}
 use lib.Dec.{eqb}
 use Rattle.span.specs.declared.Range.{Range}
@@ -8,7 +8,7 @@ use Rattle.span.specs.declared.Size.the-variants.{Exponent, NoSize}
 use Rattle.span.specs.Size.{sizeOf}
 use Rattle.span.specs.Range.{unitExponent, roundedOf}
 use Rattle.packet.specs.declared.InvalidateRequest.{InvalidateRequest}
-use Rattle.packet.specs.Numbers.{Said, refuse, demand}
+use Rattle.packet.specs.Numbers.{Said, refuse}
 use Rattle.atc.specs.declared.Cache.{Cache}
 use Rattle.atc.specs.Cache.{spanDropped}
 use Rattle.tags.specs.Itags.{isIn, joined}
@@ -28,10 +28,10 @@ exponentOf NoSize = 64
 unfoldable pub snoopRange : ℕ → InvalidateRequest → Range
 snoopRange stu i = roundedOf (i .address) (exponentOf (sizeOf (i .address) (i .sized))) (unitExponent stu)
 
--- the agent, or anyone while there is none
-abbrev pub isAgent : Agent → ℕ → Bool
-isAgent Unknown from = true
-isAgent (Known id) from = eqb id from
+-- someone else than the agent; while none is known nobody is
+abbrev pub isOther : Agent → ℕ → Bool
+isOther Unknown from = false
+isOther (Known id) from = not (eqb id from)
 
 abbrev pub cut : Cache → ℕ → Range → Cache
 cut c stu range = record { hand = c .hand; slots = spanDropped stu range (c .slots) }
@@ -47,6 +47,6 @@ snoopedBy f from i =
 -- 10, 9
 unfoldable pub invalidated : Function → ℕ → InvalidateRequest → Said Deed
 invalidated f from i =
-    demand 10 (isAgent (f .agent) from)
+    refuse 10 (isOther (f .agent) from)
     (refuse 9 (isIn (f .waiting) (i .itag))
     (plainly (snoopedBy f from i) done))

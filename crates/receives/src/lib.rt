@@ -33,7 +33,7 @@ ghost use Rattle.pages.specs.Pages.{isIndex, isWaiting};
 ghost use Rattle.replies.specs.Fills.{applied};
 ghost use Rattle.receives.specs.Reads.{stillDue, fetched, unfetched};
 ghost use Rattle.receives.specs.Translations.{untranslated, translatedAs, translated};
-ghost use Rattle.receives.specs.Invalidate.{exponentOf, snoopRange, isAgent, cut, snoopedBy, invalidated};
+ghost use Rattle.receives.specs.Invalidate.{exponentOf, snoopRange, isOther, cut, snoopedBy, invalidated};
 ghost use Rattle.receives.specs.Responses.{answeredIn, respondedOn, responded};
 ghost use Rattle.receives.specs.Receive.{completedFor, completed, taken, received, isPayload, handedBack};
 
@@ -211,12 +211,12 @@ fn snoop_range(stu: u8, i: InvalidateRequest) -> Range
     span::rounded(i.address, exponent_of(size), span::unit_exponent(stu))
 }
 
-fn is_agent(agent: Agent, from: u16) -> bool
-    ensures { λ r. ⌜ r ≡ isAgent agent from ⌝ }
+fn is_other(agent: Agent, from: u16) -> bool
+    ensures { λ r. ⌜ r ≡ isOther agent from ⌝ }
 {
     match agent {
-        Agent::Unknown => true,
-        Agent::Known(id) => id == from,
+        Agent::Unknown => false,
+        Agent::Known(id) => id != from,
     }
 }
 
@@ -258,15 +258,15 @@ fn invalidate(f: Function, from: u16, i: InvalidateRequest) -> Effect
     ensures { λ e. ⌜ told e [] ≡ ended f [] (invalidated f from i) ⌝ }
 {
     let agent = f.agent;
-    if is_agent(agent, from) {
-        if tags::itags::has(f.waiting, i.itag) {
-            state::refused(f, Refusal::StillWaiting)
-        } else {
-            state::answered(snoop(f, from, i), Answer::Done)
-        }
-    } else {
-        state::refused(f, Refusal::OtherAgent)
+    let other = is_other(agent, from);
+    let waits = tags::itags::has(f.waiting, i.itag);
+    if other {
+        return state::refused(f, Refusal::OtherAgent);
     }
+    if waits {
+        return state::refused(f, Refusal::StillWaiting);
+    }
+    state::answered(snoop(f, from, i), Answer::Done)
 }
 
 fn is_awaited(pages: Pages, k: PrgIndex) -> bool

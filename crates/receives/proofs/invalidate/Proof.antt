@@ -5,8 +5,8 @@ use borrow.Author.Needs.{needs}
 use Rattle.receives.proofs.invalidate.Statement.{statement}
 use Rattle.receives.proofs.invalidate.Tie as tie
 
-is-agent-requires : tie.Need-is-agent-requires
-is-agent-requires c κs = search needs
+is-other-requires : tie.Need-is-other-requires
+is-other-requires c κs = search needs
 
 has-requires : tie.Need-has-requires
 has-requires c κs = search needs
@@ -14,39 +14,39 @@ has-requires c κs = search needs
 refused-requires : tie.Need-refused-requires
 refused-requires c κs = search needs
 
+returns : tie.Need-returns
+unfolding invalidated
+returns c = rw (c .refused .ensures) (end-take _ _ _ _ _ _ (sym (c .before .before .before .is-other .ensures) ∙ c .before .if1 .taken) refl)
+
+refused-requires-2 : tie.Need-refused-requires-2
+refused-requires-2 c κs = search needs
+
+returns-2 : tie.Need-returns-2
+unfolding invalidated
+returns-2 c = let k = c .before .before in
+    rw (c .refused2 .ensures) (end-skip _ _ _ _ _ _ (sym (k .before .before .is-other .ensures) ∙ k .if1 .left) (end-take _ _ _ _ _ _ (sym (k .before .has .ensures) ∙ c .before .if2 .taken) refl))
+
 snoop-requires : tie.Need-snoop-requires
 snoop-requires c κs = search needs
 
 answered-requires : tie.Need-answered-requires
 answered-requires c κs = search needs
 
-refused-requires-2 : tie.Need-refused-requires-2
-refused-requires-2 c κs = search needs
-
-returns : tie.Need-returns
-unfolding invalidated
-returns c = let k = c .before .before .before in
-    rw (c .refused .ensures) (end-take _ _ _ _ _ _ (sym (k .before .is-agent .ensures) ∙ k .if1 .taken) (end-take _ _ _ _ _ _ (sym (c .before .before .has .ensures) ∙ c .before .if2 .taken) refl))
-
-returns-2 : tie.Need-returns-2
-unfolding invalidated
-returns-2 c = let k = c .before .before .before .before in
-    rw (c .answered .ensures, c .before .snoop .ensures) (end-take _ _ _ _ _ _ (sym (k .before .is-agent .ensures) ∙ k .if1 .taken) (end-skip _ _ _ _ _ _ (sym (c .before .before .before .has .ensures) ∙ c .before .before .if2 .left) refl))
-
 returns-3 : tie.Need-returns-3
 unfolding invalidated
-returns-3 c = rw (c .refused2 .ensures) (end-skip _ _ _ _ _ _ (sym (c .before .before .is-agent .ensures) ∙ c .before .if1 .left) refl)
+returns-3 c = let k = c .before .before .before in
+    rw (c .answered .ensures, c .before .snoop .ensures) (end-skip _ _ _ _ _ _ (sym (k .before .before .is-other .ensures) ∙ k .if1 .left) (end-skip _ _ _ _ _ _ (sym (k .before .has .ensures) ∙ c .before .before .if2 .left) refl))
 
 pub invalidate-spec : {M : Type 1} → statement M
 invalidate-spec =
     tie.close
     (tie.spec
-    is-agent-requires
+    is-other-requires
     has-requires
     refused-requires
+    returns
+    refused-requires-2
+    returns-2
     snoop-requires
     answered-requires
-    refused-requires-2
-    returns
-    returns-2
     returns-3)

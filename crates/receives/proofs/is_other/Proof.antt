@@ -1,6 +1,6 @@
 use borrow.Author.Needs.{needs}
-use Rattle.receives.proofs.is_agent.Statement.{statement}
-use Rattle.receives.proofs.is_agent.Tie as tie
+use Rattle.receives.proofs.is_other.Statement.{statement}
+use Rattle.receives.proofs.is_other.Tie as tie
 
 enum-told : tie.Need-enum-told
 enum-told c = search needs
@@ -14,5 +14,5 @@ returns c = search needs
 returns-2 : tie.Need-returns-2
 returns-2 c = rw (c .before .agent .given .1)
 
-pub is-agent-spec : {M : Type 1} → statement M
-is-agent-spec = tie.close (tie.spec enum-told enum-known-agent returns returns-2)
+pub is-other-spec : {M : Type 1} → statement M
+is-other-spec = tie.close (tie.spec enum-told enum-known-agent returns returns-2)

@@ -5,10 +5,10 @@ use Rattle.packet.specs.Numbers.{Said}
 use Rattle.state.specs.declared.Function.{Function}
 use Rattle.state.specs.Answers.{Deed, Result, ended}
 use Rattle.state.specs.Switches.{resetting, enabling, disabling, switchingOn, switchingOff}
-use Rattle.sends.specs.Ask.{asking}
-use Rattle.sends.specs.Access.{accessing}
-use Rattle.sends.specs.Drain.{draining}
-use Rattle.sends.specs.PageRequests.{requesting}
+use Rattle.asks.specs.Ask.{asking}
+use Rattle.accesses.specs.Access.{accessing}
+use Rattle.drains.specs.Drain.{draining}
+use Rattle.requests.specs.PageRequests.{requesting}
 use Rattle.receives.specs.Receive.{received}
 use Rattle.card.specs.declared.Command.{Command}
 use Rattle.card.specs.declared.Command.the-variants.{Reset, Enable, Disable, Ask, Access, Receive, Drain, PagesOn, PagesOff, PageRequest}

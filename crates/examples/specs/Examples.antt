@@ -35,12 +35,13 @@ use Rattle.state.specs.declared.Function.{Function}
 use Rattle.state.specs.State.{fresh}
 use Rattle.state.specs.Answers.{Word, tag, sending}
 use Rattle.state.specs.Switches.{resetting, enabling}
-use Rattle.sends.specs.declared.Way.the-variants.{Read as ToRead}
-use Rattle.sends.specs.Ask.{isBelowTop, isAskable, asking}
-use Rattle.sends.specs.Access.{lookingUp, accessing}
-use Rattle.receives.specs.Translations.{settled, translated}
-use Rattle.receives.specs.Invalidate.{snoopRange, invalidated}
-use Rattle.receives.specs.Receive.{completed, taken, received}
+use Rattle.accesses.specs.declared.Way.the-variants.{Read as ToRead}
+use Rattle.asks.specs.Ask.{isBelowTop, isAskable, asking}
+use Rattle.accesses.specs.Access.{lookingUp, accessing}
+use Rattle.completions.specs.Translations.{settled, translated}
+use Rattle.snoops.specs.Invalidate.{snoopRange, invalidated}
+use Rattle.completions.specs.Completions.{completed}
+use Rattle.receives.specs.Receive.{taken, received}
 use Rattle.card.specs.declared.Command.{Command}
 use Rattle.card.specs.declared.Command.the-variants.{Reset, Enable, Ask, Access, Receive}
 use Rattle.card.specs.Call.{calling, step}

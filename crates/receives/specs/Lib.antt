@@ -1,5 +1,2 @@
-pub mod Reads
-pub mod Translations
-pub mod Invalidate
 pub mod Responses
 pub mod Receive

@@ -3,35 +3,17 @@ use mathlib.Core.Bool.{Bool, true, false, cond}
 use mathlib.Core.List.{List, []}
 use Prim.Native.Nat.{ℕ}
 use lib.Dec.{eqb}
-use lib.ListN.{length, drop}
+use lib.ListN.{drop}
 use Rattle.packet.specs.declared.Body.{Body}
 use Rattle.packet.specs.declared.Body.the-variants.{Tr, Mem, Cpl, Inv, Ic, Prq, Prs}
-use Rattle.packet.specs.declared.Completion.{Completion}
-use Rattle.packet.specs.declared.Outcome.{Outcome}
-use Rattle.packet.specs.declared.Outcome.the-variants.{Data, Status}
 use Rattle.packet.specs.declared.Packet.{Packet}
 use Rattle.packet.specs.Numbers.{Said, gives, number, demand}
 use Rattle.packet.specs.Reading.{reading, payloadIn}
-use Rattle.tags.specs.declared.Open.{Open}
-use Rattle.tags.specs.declared.Open.the-variants.{Free, Ask, Read}
-use Rattle.tags.specs.Tags.{heldAt}
 use Rattle.state.specs.declared.Function.{Function}
 use Rattle.state.specs.Answers.{Word, done, tag, carries, discarded, more, filled, aborted, switchedOff, payloadMore, payloadLast, readFailed, Deed, ended}
-use Rattle.receives.specs.Reads.{fetched, unfetched}
-use Rattle.receives.specs.Translations.{translated, untranslated}
-use Rattle.receives.specs.Invalidate.{invalidated}
+use Rattle.completions.specs.Completions.{completed}
+use Rattle.snoops.specs.Invalidate.{invalidated}
 use Rattle.receives.specs.Responses.{responded}
-
--- what a completion says to an open tag
-abbrev pub completedFor : Function → Completion → List ℕ → Outcome → Open → Said Deed
-completedFor f c load outcome Free = number 7
-completedFor f c load (Data words) (Ask q) = translated f (c .tag) q (c .count) (c .lower) load
-completedFor f c load (Status status) (Ask q) = untranslated f (c .tag) status
-completedFor f c load (Data words) (Read r) = fetched f (c .tag) r (c .count) (length load)
-completedFor f c load (Status status) (Read r) = unfetched f (c .tag) status
-
-unfoldable pub completed : Function → Completion → List ℕ → Said Deed
-completed f c load = completedFor f c load (c .outcome) (heldAt (f .places) (c .tag))
 
 -- the kinds that the Function takes, if they are for it
 unfoldable pub taken : Function → ℕ → List ℕ → Body → Said Deed

@@ -3,6 +3,7 @@ use mathlib.Core.Bool.{Bool, false, cond, _||_}
 use mathlib.Core.List.{List}
 use Prim.Native.Nat.{ℕ}
 use lib.Dec.{eqb}
+use Rattle.packet.specs.declared.Head.{Head}
 use Rattle.packet.specs.declared.Tag.{Tag}
 use Rattle.atc.specs.declared.Cache.{Cache}
 use Rattle.atc.specs.Cache.{emptied}
@@ -16,6 +17,10 @@ use Rattle.replies.specs.declared.Rcb.the-variants.{B64, B128}
 use Rattle.state.specs.declared.Agent.{Agent}
 use Rattle.state.specs.declared.Agent.the-variants.{Unknown}
 use Rattle.state.specs.declared.Function.{Function}
+
+-- every packet goes out on Traffic Class 0
+abbrev pub headOf : ℕ → Head
+headOf id = record { tc = 0; sender = id }
 
 -- RCB is 64 or 128
 abbrev pub isRcb : ℕ → Bool

@@ -1,5 +1,6 @@
 // The Function: its state, what its calls answer, and the calls that neither send nor receive.
 use atc::Cache;
+use packet::Head;
 use packet::Refusal;
 use packet::Tag;
 use pages::Interface;
@@ -9,7 +10,7 @@ use tags::Open;
 use tags::Place;
 ghost use mathlib.Core.Path.{_≡_};
 ghost use mathlib.Core.List.{[]};
-ghost use Rattle.state.specs.State.{fresh, withPlace, withPages, isRcb, rcbOf};
+ghost use Rattle.state.specs.State.{headOf, fresh, withPlace, withPages, isRcb, rcbOf};
 ghost use Rattle.state.specs.Answers.{refusedWith, plain, told, ended};
 ghost use Rattle.state.specs.Switches.{resetting, enabling, disabling, switchingOn, switchingOff, isGranted};
 
@@ -219,4 +220,11 @@ pub fn with_place(mut f: Function, t: Tag, o: Open) -> Function
     let next = tags::hold(places, t, o);
     f.places = next;
     f
+}
+
+// Every packet goes out on Traffic Class 0.
+pub fn head(id: u16) -> Head
+    ensures { λ r. ⌜ r ≡ headOf id ⌝ }
+{
+    Head { tc: 0, sender: id }
 }

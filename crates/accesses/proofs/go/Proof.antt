@@ -1,0 +1,40 @@
+use borrow.Author.Needs.{needs}
+use Rattle.accesses.proofs.go.Statement.{statement}
+use Rattle.accesses.proofs.go.Tie as tie
+
+enum-told : tie.Need-enum-told
+enum-told c = search needs
+
+read-on-a-tag-requires : tie.Need-read-on-a-tag-requires
+read-on-a-tag-requires c κs = search needs
+
+enum-told-2 : tie.Need-enum-told-2
+enum-told-2 c = search needs
+
+write-to-requires : tie.Need-write-to-requires
+write-to-requires c κs = search needs
+
+same-length : tie.Need-same-length
+same-length c = search needs
+
+returns : tie.Need-returns
+returns c = rw (c .before .before .before .before .enum-told .given .1) (c .before .before .read-on-a-tag .ensures)
+
+same-length-2 : tie.Need-same-length-2
+same-length-2 c = search needs
+
+returns-2 : tie.Need-returns-2
+returns-2 c = rw (c .before .before .before .before .enum-told2 .given .1) (c .before .before .write-to .ensures)
+
+pub go-spec : {M : Type 1} → statement M
+go-spec =
+    tie.close
+    (tie.spec
+    enum-told
+    read-on-a-tag-requires
+    enum-told-2
+    write-to-requires
+    same-length
+    returns
+    same-length-2
+    returns-2)

@@ -1,0 +1,63 @@
+-- Ask. 01, "The Function's tables".
+use mathlib.Core.Path.{_≡_}
+use mathlib.Core.Bool.{Bool, true, _&&_}
+use mathlib.Core.List.{List, []}
+use Prim.Native.Nat.{ℕ, _+_, _-_, _*_, _/_, _^_, _≤_}
+use native.Mathlib.Nat.{le-trans}
+use lib.Dec.{leb, lit≤}
+use borrow.Author.Tests.{leb-true}
+use Rattle.lemmas.specs.Cases.{and-both}
+use Rattle.span.specs.Range.{unitExponent, unitBytes, regionOf}
+use Rattle.packet.specs.declared.Tag.{Tag}
+use Rattle.packet.specs.declared.Packet.{Packet}
+use Rattle.packet.specs.declared.Body.the-variants.{Tr}
+use Rattle.packet.specs.Numbers.{Said, demand}
+use Rattle.tags.specs.Tags.{isTag, freeTag, asked}
+use Rattle.replies.specs.declared.Rcb.{Rcb}
+use Rattle.replies.specs.declared.Rcb.the-variants.{B64, B128}
+use Rattle.replies.specs.Fits.{boundary}
+use Rattle.state.specs.declared.Function.{Function}
+use Rattle.state.specs.State.{headOf, withPlace}
+use Rattle.state.specs.Answers.{Deed, tag, sending}
+
+-- N is 1 to RCB/8
+abbrev pub isFew : Rcb → ℕ → Bool
+isFew rcb units = leb 1 units && leb units (boundary rcb / 8)
+
+-- the range, N units from the one that holds the address, does not pass 2 ^ 64
+unfoldable pub isBelowTop : ℕ → ℕ → ℕ → Bool
+isBelowTop stu address units = leb (regionOf address (unitExponent stu) .first + units * unitBytes stu) (2 ^ 64)
+
+unfoldable pub isAskable : Rcb → ℕ → ℕ → ℕ → Bool
+isAskable rcb stu address units = isFew rcb units && isBelowTop stu address units
+
+-- a request of Length 2N, for the address without its bits 11:0
+abbrev pub requestOf : ℕ → Tag → ℕ → ℕ → Bool → Packet
+requestOf id t address units nowrite =
+    record {
+      head = headOf id;
+      body = Tr (record { tag = t; words = 2 * units; address = address / 4096 * 4096; nowrite = nowrite });
+    }
+
+abbrev pub askFrom : Function → Tag → ℕ → ℕ → Bool → List ℕ → Said Deed
+askFrom f t address units nowrite out =
+    sending (withPlace f t (asked address (units - 1))) (tag (t .0)) (requestOf (f .id) t address units nowrite) [] out
+
+-- 6, 12, 11, 17
+unfoldable pub asking : Function → ℕ → ℕ → Bool → List ℕ → Said Deed
+asking f address units nowrite out =
+    demand 6 (f .enabled)
+    (demand 12 (isAskable (f .rcb) (f .stu) address units)
+    (demand 11 (isTag (freeTag (f .places)))
+    (askFrom f (freeTag (f .places)) address units nowrite out)))
+
+-- what may be asked for is 16 units at most
+pub few-units : (rcb : Rcb) (stu address units : ℕ) → isAskable rcb stu address units ≡ true → (1 ≤ units) × (units ≤ 16)
+unfolding isAskable
+few-units rcb stu address units e =
+    let few = and-both (leb 1 units) (leb units (boundary rcb / 8)) (and-both (isFew rcb units) (isBelowTop stu address units) e .0) in
+    (leb-true 1 units (few .0), le-trans (leb-true units (boundary rcb / 8) (few .1)) (most rcb))
+  where
+    most : (rcb : Rcb) → boundary rcb / 8 ≤ 16
+    most B64 = lit≤ tt
+    most B128 = lit≤ tt

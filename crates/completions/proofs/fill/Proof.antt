@@ -1,0 +1,12 @@
+use borrow.Author.Needs.{needs}
+use Rattle.completions.proofs.fill.Statement.{statement}
+use Rattle.completions.proofs.fill.Tie as tie
+
+apply-requires : tie.Need-apply-requires
+apply-requires c κs = search needs
+
+returns : tie.Need-returns
+returns c = rw (c .apply .ensures)
+
+pub fill-spec : {M : Type 1} → statement M
+fill-spec = tie.close (tie.spec apply-requires returns)

@@ -1,0 +1,3 @@
+pub mod Reads
+pub mod Translations
+pub mod Completions

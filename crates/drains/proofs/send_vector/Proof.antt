@@ -1,0 +1,75 @@
+use mathlib.Core.Path.{refl}
+use borrow.Author.Tests.{eq-eqb, ne-eqb}
+use Rattle.state.specs.Ends.{end-take, end-skip, end-sent, end-unsent}
+use Rattle.drains.specs.Drain.{sendingVector}
+use borrow.Author.Needs.{needs}
+use Rattle.drains.proofs.send_vector.Statement.{statement}
+use Rattle.drains.proofs.send_vector.Tie as tie
+
+answered-requires : tie.Need-answered-requires
+answered-requires c κs = search needs
+
+returns : tie.Need-returns
+unfolding sendingVector
+returns c = rw (c .answered .ensures) (end-take _ _ _ _ _ _ (eq-eqb _ _ (c .before .if1 .taken)) refl)
+
+completion-requires : tie.Need-completion-requires
+completion-requires c κs = search needs
+
+slice-aggregate-write-packet : tie.Need-slice-aggregate-write-packet
+slice-aggregate-write-packet c = search needs
+
+write-packet-requires : tie.Need-write-packet-requires
+write-packet-requires c κs = search needs
+
+enum-known-n : tie.Need-enum-known-n
+enum-known-n c = search needs
+
+without-requires : tie.Need-without-requires
+without-requires c κs = search needs
+
+enum-known-r : tie.Need-enum-known-r
+enum-known-r c = search needs
+
+refused-requires : tie.Need-refused-requires
+refused-requires c κs = search needs
+
+same-length : tie.Need-same-length
+same-length c = search needs
+
+returns-2 : tie.Need-returns-2
+unfolding sendingVector
+returns-2 c = let k = c .before .before .before .before .before .before in
+    let q = k .before .before .before in
+    let p = q .completion .ensures in
+    let e = rw (c .before .before .n .given .1, p) at (k .write-packet .ensures .0) in
+    end-skip _ _ _ _ _ _ (ne-eqb _ _ (q .before .if1 .left)) (rw (c .without .ensures) (end-sent _ _ _ _ _ _ _ (rw p at (k .write-packet .ensures .1)) _ e))
+
+same-length-2 : tie.Need-same-length-2
+same-length-2 c = search needs
+
+returns-3 : tie.Need-returns-3
+unfolding sendingVector
+returns-3 c = let k = c .before .before .before .before .before .before in
+    let q = k .before .before .before in
+    let p = q .completion .ensures in
+    let e = rw (c .before .before .r .given .1, p) at (k .write-packet .ensures .0) in
+    rw (c .refused .ensures) (end-skip _ _ _ _ _ _ (ne-eqb _ _ (q .before .if1 .left)) (end-unsent _ _ _ _ _ _ _ (rw p at (k .write-packet .ensures .1)) _ e))
+
+pub send-vector-spec : {M : Type 1} → statement M
+send-vector-spec =
+    tie.close
+    (tie.spec
+    answered-requires
+    returns
+    completion-requires
+    slice-aggregate-write-packet
+    write-packet-requires
+    enum-known-n
+    without-requires
+    enum-known-r
+    refused-requires
+    same-length
+    returns-2
+    same-length-2
+    returns-3)

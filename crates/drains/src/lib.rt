@@ -1,0 +1,73 @@
+// Drain: one Invalidate Completion for the ITags that no read holds back.
+use packet::Body;
+use packet::InvalidateCompletion;
+use packet::Packet;
+use packet::Writing;
+use state::Agent;
+use state::Answer;
+use state::Effect;
+use state::Function;
+ghost use mathlib.Core.Path.{_≡_};
+ghost use Rattle.state.specs.Answers.{told, ended};
+ghost use Rattle.drains.specs.Drain.{agentId, completionFrom, readyOf, sendingVector, draining};
+
+fn agent_id(agent: Agent) -> u16
+    ensures { λ r. ⌜ r ≡ agentId agent ⌝ }
+{
+    match agent {
+        Agent::Unknown => 0,
+        Agent::Known(id) => id,
+    }
+}
+
+fn completion(id: u16, agent: Agent, v: u32) -> Packet
+    ensures { λ r. ⌜ r ≡ completionFrom id agent v ⌝ }
+{
+    let body = Body::Ic(InvalidateCompletion {
+        device: agent_id(agent),
+        cc: 1,
+        vector: v,
+    });
+    Packet {
+        head: state::head(id),
+        body,
+    }
+}
+
+// The waiting ITags with no read to wait for.
+pub fn ready(f: Function) -> u32
+    ensures { λ r. ⌜ r ≡ readyOf f ⌝ }
+{
+    let places = f.places;
+    tags::itags::without(f.waiting, tags::held_back(places))
+}
+
+// One completion for a vector of ITags, if there are any.
+fn send_vector(mut f: Function, v: u32, out: &mut [u8]) -> Effect
+    ensures { λ r. ⌜ told r (now (out .exit)) ≡ ended f (now (out .entry)) (sendingVector f v (now (out .entry))) ⌝ }
+{
+    if v == 0 {
+        return state::answered(f, Answer::Carried(0));
+    }
+    let none: [u8; 0] = [0; 0];
+    let agent = f.agent;
+    let p = completion(f.id, agent, v);
+    match tlp::write_packet(p, &none, out) {
+        Writing::Written(n) => {
+            f.waiting = tags::itags::without(f.waiting, v);
+            let answer = Answer::Carried(u32::count_ones(v));
+            Effect {
+                state: f,
+                answer,
+                sent: n,
+            }
+        }
+        Writing::Refused(r) => state::refused(f, r),
+    }
+}
+
+pub fn drain(f: Function, out: &mut [u8]) -> Effect
+    ensures { λ r. ⌜ told r (now (out .exit)) ≡ ended f (now (out .entry)) (draining f (now (out .entry))) ⌝ }
+{
+    send_vector(f, ready(f), out)
+}

@@ -1,0 +1,41 @@
+-- Page requests. 01, "The Function's tables".
+use mathlib.Core.Bool.{Bool, _&&_, _||_}
+use mathlib.Core.List.{List, []}
+use Prim.Native.Nat.{ℕ, _%_}
+use lib.Dec.{eqb}
+use Rattle.packet.specs.declared.Packet.{Packet}
+use Rattle.packet.specs.declared.PageRequest.{PageRequest}
+use Rattle.packet.specs.declared.Body.the-variants.{Prq}
+use Rattle.packet.specs.Numbers.{Said, number, refuse, demand}
+use Rattle.pages.specs.declared.Interface.{Interface}
+use Rattle.pages.specs.declared.Interface.the-variants.{Off, On, Stopped}
+use Rattle.pages.specs.declared.Pages.{Pages}
+use Rattle.pages.specs.Pages.{isIndex, isWaiting, isSpent, joined}
+use Rattle.state.specs.declared.Function.{Function}
+use Rattle.state.specs.State.{withPages, headOf}
+use Rattle.state.specs.Answers.{Deed, done, sending}
+
+abbrev pub pageOf : ℕ → PageRequest → Packet
+pageOf id q = record { head = headOf id; body = Prq q }
+
+-- R or W, a page, and an index of 0 to 31
+abbrev pub isAsked : PageRequest → Bool
+isAsked q = (q .read || q .write) && (eqb (q .page % 4096) 0 && isIndex (q .index))
+
+-- one request more, which uses a credit
+abbrev pub requested : Pages → PageRequest → Pages
+requested p q = record { interface = On; allocation = p .allocation; groups = joined (p .groups) (q .index) (q .last) }
+
+-- while the interface is on: 12, 16 for a group that waits or where no credit is left, 17
+unfoldable pub requestingOn : Function → PageRequest → List ℕ → Said Deed
+requestingOn f q out =
+    demand 12 (isAsked q)
+    (refuse 16 (isWaiting (f .pages .groups) (q .index))
+    (refuse 16 (isSpent (f .pages .groups) (f .pages .allocation))
+    (sending (withPages f (requested (f .pages) q)) done (pageOf (f .id) q) [] out)))
+
+-- 15 where it is off or stopped
+abbrev pub requesting : Function → PageRequest → List ℕ → Interface → Said Deed
+requesting f q out Off = number 15
+requesting f q out On = requestingOn f q out
+requesting f q out Stopped = number 15

@@ -1,4 +1,0 @@
-pub mod Ask
-pub mod Access
-pub mod Drain
-pub mod PageRequests

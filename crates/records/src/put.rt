@@ -60,10 +60,17 @@ pub fn hexes(out: &mut [u8], at: usize, bytes: &[u8]) -> usize {
     next
 }
 
+pub fn text(out: &mut [u8], at: usize, characters: &[u8]) -> usize {
+    let mut next = at;
+    let mut i = 0;
+    while i < characters.len() {
+        next = byte(out, next, characters[i]);
+        i += 1;
+    }
+    next
+}
+
 pub fn bad(out: &mut [u8], at: usize, number: u8) -> usize {
-    let a = byte(out, at, b'B');
-    let b = byte(out, a, b'A');
-    let c = byte(out, b, b'D');
-    let d = byte(out, c, b'\t');
-    small(out, d, number)
+    let next = text(out, at, b"BAD\t");
+    small(out, next, number)
 }

@@ -17,7 +17,7 @@ pub enum Trial {
 }
 
 // Where the line that begins at `from` ends: at its line feed, or where the input does.
-fn line_end(input: &[u8], from: usize) -> usize
+pub fn line_end(input: &[u8], from: usize) -> usize
     requires { ⌜ from ≤ length (now input) ⌝ }
     ensures { λ r. ⌜ (from ≤ r) × (r ≤ length (now (input .entry))) ⌝ }
 {
@@ -33,7 +33,7 @@ fn line_end(input: &[u8], from: usize) -> usize
 
 // The bytes that a line spells, as many as there is room for; over 600 where a character is no
 // hex digit, the count is odd, or the line is longer.
-fn unhex(line: &[u8], bytes: &mut [u8]) -> usize {
+pub fn unhex(line: &[u8], bytes: &mut [u8]) -> usize {
     if line.len() % 2 == 1 {
         return 601;
     }
@@ -99,13 +99,6 @@ fn write_one(r: &[u8], out: &mut [u8], at: usize) -> usize {
     write_into(r, &mut space, take::num16(r, 4) as usize, out, at)
 }
 
-fn put_none(out: &mut [u8], at: usize) -> usize {
-    let a = put::byte(out, at, b'N');
-    let b = put::byte(out, a, b'O');
-    let c = put::byte(out, b, b'N');
-    put::byte(out, c, b'E')
-}
-
 // The base, the size's exponent, and N, U, W and R.
 fn put_sized(t: Translation, e: u32, out: &mut [u8], at: usize) -> usize {
     let a = put::hex64(out, at, t.base);
@@ -123,7 +116,7 @@ fn size_one(r: &[u8], out: &mut [u8], at: usize) -> usize {
     let size = t.size;
     match size {
         Size::Exponent(e) => put_sized(t, e, out, at),
-        Size::NoSize => put_none(out, at),
+        Size::NoSize => put::text(out, at, b"NONE"),
     }
 }
 

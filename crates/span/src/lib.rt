@@ -92,7 +92,7 @@ pub fn unit_exponent(stu: u8) -> u32
 pub fn unit_bytes(stu: u8) -> u64
     ensures { λ r. ⌜ (r ≡ unitBytes stu) × (1 ≤ r) × (r ≤ 0x800_0000_0000) ⌝ }
 {
-    1u64 << (12 + stu as u32 % 32)
+    1u64 << unit_exponent(stu)
 }
 
 // Which region of 2^exponent bytes an address lies in, counted from 0.
@@ -123,11 +123,9 @@ pub fn rounded(address: u64, exponent: u32, unit: u32) -> Range
 pub fn reach(first: u64, rest: u64) -> Range
     ensures { λ r. ⌜ r ≡ reachOf first rest ⌝ }
 {
-    if 0xFFFF_FFFF_FFFF_FFFF - first < rest {
-        Range {
-            first,
-            last: 0xFFFF_FFFF_FFFF_FFFF,
-        }
+    let top: u64 = 0xFFFF_FFFF_FFFF_FFFF;
+    if top - first < rest {
+        Range { first, last: top }
     } else {
         Range {
             first,

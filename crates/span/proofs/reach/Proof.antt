@@ -11,8 +11,8 @@ use Rattle.span.proofs.reach.Lts as lts
 sub-if1 : tie.Need-sub-if1
 sub-if1 c = search needs
 
-add-t6 : tie.Need-add-t6
-add-t6 c = search needs
+add-t7 : tie.Need-add-t7
+add-t7 c = search needs
 
 returns : tie.Need-returns
 unfolding reachOf
@@ -26,4 +26,4 @@ returns-2 c = let a = c .before .args in
     rw (min-eq-left {n = a .first + a .rest} {m = 2 ^ 64 - 1} (omega (arith, c .if1 .left, c .before .fits .first .fits)))
 
 pub reach-spec : {M : Type 1} → statement M
-reach-spec = tie.close (tie.spec sub-if1 add-t6 returns returns-2)
+reach-spec = tie.close (tie.spec sub-if1 add-t7 returns returns-2)

@@ -89,12 +89,15 @@ fn ask_with(f: Function, tag: Tag, address: u64, units: u8, nowrite: bool, out: 
 pub fn ask(f: Function, address: u64, units: u16, nowrite: bool, out: &mut [u8]) -> Effect
     ensures { λ r. ⌜ told r (now (out .exit)) ≡ ended f (now (out .entry)) (asking f address units nowrite (now (out .entry))) ⌝ }
 {
-    if f.enabled {
-        let rcb = f.rcb;
-        if is_askable(rcb, f.stu, address, units) {
-            let places = f.places;
-            let tag = tags::lowest_free(places);
-            if tags::is_tag(tag) {
+    let rcb = f.rcb;
+    let places = f.places;
+    let askable = is_askable(rcb, f.stu, address, units);
+    let tag = tags::lowest_free(places);
+    let is_left = tags::is_tag(tag);
+    let enabled = f.enabled;
+    if enabled {
+        if askable {
+            if is_left {
                 ask_with(f, tag, address, units as u8, nowrite, out)
             } else {
                 state::refused(f, Refusal::NoTag)

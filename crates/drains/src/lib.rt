@@ -39,7 +39,8 @@ pub fn ready(f: Function) -> u32
     ensures { λ r. ⌜ r ≡ readyOf f ⌝ }
 {
     let places = f.places;
-    tags::itags::without(f.waiting, tags::held_back(places))
+    let held = tags::held_back(places);
+    tags::itags::without(f.waiting, held)
 }
 
 // One completion for a vector of ITags, if there are any.
@@ -51,10 +52,11 @@ fn send_vector(mut f: Function, v: u32, out: &mut [u8]) -> Effect
     }
     let none: [u8; 0] = [0; 0];
     let agent = f.agent;
+    let waiting = f.waiting;
     let p = completion(f.id, agent, v);
     match tlp::write_packet(p, &none, out) {
         Writing::Written(n) => {
-            f.waiting = tags::itags::without(f.waiting, v);
+            f.waiting = tags::itags::without(waiting, v);
             let answer = Answer::Carried(u32::count_ones(v));
             Effect {
                 state: f,

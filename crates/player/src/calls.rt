@@ -1,4 +1,5 @@
 // The call that a record names.
+use accesses::Way;
 use card::Accessing;
 use card::Asking;
 use card::Command;
@@ -6,7 +7,6 @@ use card::Resetting;
 use packet::PageRequest;
 use packet::PrgIndex;
 use records::take;
-use accesses::Way;
 ghost use Prim.Native.Nat.{_≤_};
 
 fn take_reset(r: &[u8]) -> Command {

@@ -16,8 +16,8 @@ is-tag-requires : tie.Need-is-tag-requires
 is-tag-requires c κs = search needs
 
 cast-ask-with : tie.Need-cast-ask-with
-cast-ask-with c = let q = c .before .before .before .before in
-    omega (arith, few-units _ _ _ _ (sym (q .before .is-askable .ensures) ∙ q .if2 .taken) .1)
+cast-ask-with c = let q = c .before .before .before .before .before in
+    omega (arith, few-units _ _ _ _ (sym (q .is-askable .ensures) ∙ c .before .if2 .taken) .1)
 
 ask-with-requires : tie.Need-ask-with-requires
 ask-with-requires c κs = search needs
@@ -37,23 +37,26 @@ same-length c = search needs
 returns : tie.Need-returns
 unfolding asking
 returns c = let k = c .before .before .before .before in
-    let q = k .before .before in
-    let t = q .lowest-free .ensures in
-    end-take _ _ _ _ _ _ (q .before .before .before .before .if1 .taken)
-    (end-take _ _ _ _ _ _ (sym (q .before .before .before .is-askable .ensures) ∙ q .before .before .if2 .taken)
-    (end-take _ _ _ _ _ _ (rw t at (sym (k .before .is-tag .ensures) ∙ k .if3 .taken)) (rw t at (c .before .before .ask-with .ensures))))
+    let q = k .before .before .before in
+    let t = q .before .lowest-free .ensures in
+    end-take _ _ _ _ _ _ (k .before .before .if1 .taken)
+    (end-take _ _ _ _ _ _ (sym (q .before .before .is-askable .ensures) ∙ k .before .if2 .taken)
+    (end-take _ _ _ _ _ _ (rw t at (sym (q .is-tag .ensures) ∙ k .if3 .taken)) (rw t at (c .before .before .ask-with .ensures))))
 
 returns-2 : tie.Need-returns-2
 unfolding asking
-returns-2 c = let q = c .before .before .before in
+returns-2 c = let k = c .before in
+    let q = k .before .before .before in
     rw (c .refused .ensures)
-    (end-take _ _ _ _ _ _ (q .before .before .before .before .if1 .taken)
-    (end-take _ _ _ _ _ _ (sym (q .before .before .before .is-askable .ensures) ∙ q .before .before .if2 .taken)
-    (end-skip _ _ _ _ _ _ (rw (q .lowest-free .ensures) at (sym (c .before .before .is-tag .ensures) ∙ c .before .if3 .left)) refl)))
+    (end-take _ _ _ _ _ _ (k .before .before .if1 .taken)
+    (end-take _ _ _ _ _ _ (sym (q .before .before .is-askable .ensures) ∙ k .before .if2 .taken)
+    (end-skip _ _ _ _ _ _ (rw (q .before .lowest-free .ensures) at (sym (q .is-tag .ensures) ∙ k .if3 .left)) refl)))
 
 returns-3 : tie.Need-returns-3
 unfolding asking
-returns-3 c = rw (c .refused2 .ensures) (end-take _ _ _ _ _ _ (c .before .before .before .if1 .taken) (end-skip _ _ _ _ _ _ (sym (c .before .before .is-askable .ensures) ∙ c .before .if2 .left) refl))
+returns-3 c = let k = c .before in
+    let q = k .before .before in
+    rw (c .refused2 .ensures) (end-take _ _ _ _ _ _ (k .before .if1 .taken) (end-skip _ _ _ _ _ _ (sym (q .before .before .is-askable .ensures) ∙ k .if2 .left) refl))
 
 returns-4 : tie.Need-returns-4
 unfolding asking

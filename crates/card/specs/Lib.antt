@@ -1,1 +1,4 @@
+pub mod Among
 pub mod Call
+pub mod Moved
+pub mod Refused

@@ -42,18 +42,20 @@ use Rattle.state.specs.declared.Function.{Function}
 use Rattle.state.specs.State.{withPages}
 use Rattle.state.specs.Answers.{Word, done, Deed, ended, sentAs, sending}
 use Rattle.state.specs.Switches.{resetting, enabling, disabling, switchingOn, switchingOff}
-use Rattle.sends.specs.declared.Way.{Way}
-use Rattle.sends.specs.declared.Way.the-variants.{Read as ToRead, Write as ToWrite}
-use Rattle.sends.specs.declared.Target.{Target}
-use Rattle.sends.specs.Ask.{headOf, isAskable, requestOf, askFrom, asking, few-units}
-use Rattle.sends.specs.Access.{isInPage, loadFor, unitAt, isAllowed, targetOf, enteredBy, lookingUp, memoryOf, going, goingIf, accessing}
-use Rattle.sends.specs.Drain.{completionFrom, readyOf, sendingVector, draining}
-use Rattle.sends.specs.PageRequests.{pageOf, isAsked, requested, requestingOn, requesting}
-use Rattle.receives.specs.Reads.{fetched, unfetched}
-use Rattle.receives.specs.Translations.{untranslated, settled, translatedAs, translated}
-use Rattle.receives.specs.Invalidate.{invalidated}
+use Rattle.accesses.specs.declared.Way.{Way}
+use Rattle.accesses.specs.declared.Way.the-variants.{Read as ToRead, Write as ToWrite}
+use Rattle.accesses.specs.declared.Target.{Target}
+use Rattle.asks.specs.Ask.{isAskable, requestOf, askFrom, asking, few-units}
+use Rattle.state.specs.State.{headOf}
+use Rattle.accesses.specs.Access.{isInPage, loadFor, unitAt, isAllowed, targetOf, enteredBy, lookingUp, memoryOf, going, goingIf, accessing}
+use Rattle.drains.specs.Drain.{completionFrom, readyOf, sendingVector, draining}
+use Rattle.requests.specs.PageRequests.{pageOf, isAsked, requested, requestingOn, requesting}
+use Rattle.completions.specs.Reads.{fetched, unfetched}
+use Rattle.completions.specs.Translations.{untranslated, settled, translatedAs, translated}
+use Rattle.snoops.specs.Invalidate.{invalidated}
 use Rattle.receives.specs.Responses.{respondedOn, responded}
-use Rattle.receives.specs.Receive.{completedFor, completed, taken, takenIf, received}
+use Rattle.completions.specs.Completions.{completedFor, completed}
+use Rattle.receives.specs.Receive.{taken, takenIf, received}
 use Rattle.card.specs.declared.Command.{Command}
 use Rattle.card.specs.declared.Command.the-variants.{Reset, Enable, Disable, Ask as Asks, Access, Receive, Drain, PagesOn, PagesOff, PageRequest as PageRequests}
 use Rattle.card.specs.Call.{calling, step}

@@ -13,14 +13,14 @@ use Rattle.state.specs.declared.Effect.{Effect}
 use Rattle.state.specs.State.{rcbOf, fresh}
 use Rattle.state.specs.Answers.{Word, done, tag, carries, discarded, more, filled, aborted, switchedOff, payloadMore, payloadLast, readFailed, paper, Result, ended, told}
 use Rattle.state.specs.Switches.{resetting, enabling, disabling, switchingOn, switchingOff}
-use Rattle.sends.specs.declared.Way.{Way}
-use Rattle.sends.specs.declared.Target.{Target}
-use Rattle.sends.specs.declared.Goes.{Goes}
-use Rattle.sends.specs.declared.Goes.the-variants.{To, Refused as Stays}
-use Rattle.sends.specs.Ask.{asking}
-use Rattle.sends.specs.Access.{paperGoes, lookingUp, accessing}
-use Rattle.sends.specs.Drain.{readyOf, draining}
-use Rattle.sends.specs.PageRequests.{requesting}
+use Rattle.accesses.specs.declared.Way.{Way}
+use Rattle.accesses.specs.declared.Target.{Target}
+use Rattle.accesses.specs.declared.Goes.{Goes}
+use Rattle.accesses.specs.declared.Goes.the-variants.{To, Refused as Stays}
+use Rattle.asks.specs.Ask.{asking}
+use Rattle.accesses.specs.Access.{paperGoes, lookingUp, accessing}
+use Rattle.drains.specs.Drain.{readyOf, draining}
+use Rattle.requests.specs.PageRequests.{requesting}
 use Rattle.receives.specs.Receive.{received, handedBack}
 use Rattle.card.specs.declared.Command.{Command}
 use Rattle.card.specs.Call.{step}

@@ -1,12 +1,9 @@
 -- Access, and the look-up that says where one goes. 01, "The Function's tables".
-use mathlib.Core.Path.{_≡_}
 use mathlib.Core.Bool.{Bool, true, false, cond, _&&_}
 use mathlib.Core.List.{List}
-use Prim.Native.Nat.{ℕ, _+_, _*_, _%_, _≤_}
+use Prim.Native.Nat.{ℕ, _+_, _*_, _%_}
 use lib.Dec.{eqb, leb}
 use lib.ListN.{length}
-use borrow.Author.Tests.{leb-true}
-use Rattle.lemmas.specs.Cases.{and-both}
 use Rattle.span.specs.Range.{unitExponent, regionOf, movedTo}
 use Rattle.packet.specs.declared.Tag.{Tag}
 use Rattle.packet.specs.declared.Access.{Access}
@@ -14,7 +11,6 @@ use Rattle.packet.specs.declared.Access.the-variants.{Read, Write}
 use Rattle.packet.specs.declared.Packet.{Packet}
 use Rattle.packet.specs.declared.Body.the-variants.{Mem}
 use Rattle.packet.specs.Numbers.{Said, gives, number, numberOf, demand}
-use Rattle.packet.specs.Laws.{demanded}
 use Rattle.atc.specs.declared.Entry.{Entry}
 use Rattle.atc.specs.declared.Found.{Found}
 use Rattle.atc.specs.declared.Found.the-variants.{Hit, Miss}
@@ -94,12 +90,3 @@ goingIf f way address words load out (number n) = number n
 -- 6, 12, 13, 14, 11 for reads, 17
 unfoldable pub accessing : Function → Way → ℕ → ℕ → List ℕ → List ℕ → Said Deed
 accessing f way address words load out = goingIf f way address words load out (lookingUp f way address words (length load))
-
--- what goes somewhere is 32 DWORDs at most
-pub few-words : (f : Function) (way : Way) (address words load : ℕ) (t : Target) → lookingUp f way address words load ≡ gives t → words ≤ 32
-unfolding lookingUp
-few-words f way address words load t e =
-    let on = demanded (f .enabled) 6 _ e in
-    let page = demanded (isInPage address words) 12 _ (on .1) in
-    let some = and-both (leb 1 words) _ (page .0) in
-    leb-true words 32 (and-both (leb words 32) _ (some .1) .0)

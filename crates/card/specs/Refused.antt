@@ -1,14 +1,13 @@
 -- A refused call changes nothing, and its number is one of those that 01 gives for the call.
-use mathlib.Core.Path.{_≡_, refl, sym, ap, _∙_}
-use mathlib.Core.Bool.{Bool, true, cond, _&&_, _||_}
+use mathlib.Core.Path.{_≡_, refl, ap}
+use mathlib.Core.Bool.{Bool, true, _&&_, _||_}
 use mathlib.Core.List.{List, [], _∷_}
-use Prim.Native.Nat.{ℕ, _+_, _*_, _%_, _≤_, _<_}
+use Prim.Native.Nat.{ℕ, _%_, _≤_}
 use native.Mathlib.Omega.{arith}
 use lib.Dec.{leb, eqb, lit≤}
 use lib.ListN.{length}
 use borrow.Author.Tests.{leb-true, eqb-true, ltb-true}
-use Rattle.lemmas.specs.Cases.{byCases, and-both}
-use Rattle.span.specs.Range.{unitExponent, movedTo}
+use Rattle.lemmas.specs.Cases.{and-both}
 use Rattle.packet.specs.declared.Packet.{Packet}
 use Rattle.packet.specs.declared.Body.{Body}
 use Rattle.packet.specs.declared.Body.the-variants.{Tr, Mem, Cpl, Inv, Ic, Prq, Prs}
@@ -21,46 +20,41 @@ use Rattle.packet.specs.declared.Outcome.the-variants.{Data, Status}
 use Rattle.packet.specs.declared.InvalidateRequest.{InvalidateRequest}
 use Rattle.packet.specs.declared.PrgIndex.{PrgIndex}
 use Rattle.packet.specs.Numbers.{Said, gives, number}
-use Rattle.packet.specs.Laws.{demanded, same-gift}
+use Rattle.packet.specs.Among.{isAmong, Among, among, among-number, everyOne, every-one, widened, reading-numbers, Sendable, tr-sendable, read-sendable, write-sendable, ic-sendable, prq-sendable}
 use Rattle.packet.specs.Reading.{reading, payloadIn}
-use Rattle.packet.specs.Writing.{writing, bytesOf}
-use Rattle.atc.specs.declared.Entry.{Entry}
 use Rattle.atc.specs.declared.Found.{Found}
 use Rattle.atc.specs.declared.Found.the-variants.{Hit, Miss}
-use Rattle.atc.specs.Cache.{found}
 use Rattle.tags.specs.declared.Open.{Open}
 use Rattle.tags.specs.declared.Open.the-variants.{Free, Ask, Read}
-use Rattle.tags.specs.declared.Tr.{Tr as Request}
-use Rattle.tags.specs.Tags.{isTag, freeTag, heldAt}
+use Rattle.tags.specs.Tags.{freeTag}
 use Rattle.pages.specs.declared.Interface.{Interface}
 use Rattle.pages.specs.declared.Interface.the-variants.{Off, On, Stopped}
-use Rattle.pages.specs.Pages.{isIndex, isWaiting, isSpent}
+use Rattle.pages.specs.Pages.{isIndex}
 use Rattle.replies.specs.declared.Part.{Part}
 use Rattle.replies.specs.declared.Part.the-variants.{Misfit, Off as OffBoundary, First, Last}
 use Rattle.replies.specs.Fits.{judged}
 use Rattle.state.specs.declared.Function.{Function}
-use Rattle.state.specs.State.{withPages}
-use Rattle.state.specs.Answers.{Word, done, Deed, ended, sentAs, sending}
+use Rattle.state.specs.State.{headOf}
+use Rattle.state.specs.Answers.{Deed, ended}
+use Rattle.state.specs.Laws.{sending-numbers}
 use Rattle.state.specs.Switches.{resetting, enabling, disabling, switchingOn, switchingOff}
 use Rattle.accesses.specs.declared.Way.{Way}
 use Rattle.accesses.specs.declared.Way.the-variants.{Read as ToRead, Write as ToWrite}
 use Rattle.accesses.specs.declared.Target.{Target}
-use Rattle.asks.specs.Ask.{isAskable, requestOf, askFrom, asking, few-units}
-use Rattle.state.specs.State.{headOf}
-use Rattle.accesses.specs.Access.{isInPage, loadFor, unitAt, isAllowed, targetOf, enteredBy, lookingUp, memoryOf, going, goingIf, accessing}
+use Rattle.asks.specs.Ask.{isAskable, requestOf, asking, few-units}
+use Rattle.accesses.specs.Access.{enteredBy, lookingUp, memoryOf, going, goingIf, accessing}
+use Rattle.accesses.specs.Laws.{Reached, reached}
 use Rattle.drains.specs.Drain.{completionFrom, readyOf, sendingVector, draining}
-use Rattle.requests.specs.PageRequests.{pageOf, isAsked, requested, requestingOn, requesting}
+use Rattle.requests.specs.PageRequests.{pageOf, isAsked, requestingOn, requesting}
 use Rattle.completions.specs.Reads.{fetched, unfetched}
 use Rattle.completions.specs.Translations.{untranslated, settled, translatedAs, translated}
+use Rattle.completions.specs.Completions.{completedFor, completed}
 use Rattle.snoops.specs.Invalidate.{invalidated}
 use Rattle.receives.specs.Responses.{respondedOn, responded}
-use Rattle.completions.specs.Completions.{completedFor, completed}
 use Rattle.receives.specs.Receive.{taken, takenIf, received}
 use Rattle.card.specs.declared.Command.{Command}
 use Rattle.card.specs.declared.Command.the-variants.{Reset, Enable, Disable, Ask as Asks, Access, Receive, Drain, PagesOn, PagesOff, PageRequest as PageRequests}
 use Rattle.card.specs.Call.{calling, step}
-use Rattle.card.specs.Among.{isAmong, Among, among, among-case, among-number, everyOne, every-one, widened, among-case, reading-numbers, Sendable, only-room, tr-sendable, read-sendable, write-sendable, ic-sendable, prq-sendable}
-use Rattle.card.specs.Moved.{moved-low}
 
 -- A refused call leaves the state and the buffer as they were, and sends nothing.
 pub refused-keeps : (f : Function) (c : Command) (bytes out : List ℕ) (n : ℕ) → step f c bytes out .says ≡ number n
@@ -99,14 +93,6 @@ switchingOff-numbers f Stopped = search among
 
 -- ---- the calls that send: what they write is refused only for want of room
 
-sent-as : (l : List ℕ) (f : Function) (w : Word) (bytes : List ℕ) (s : Said ℕ) → Among l s → Among l (sentAs f w bytes s)
-sent-as l f w bytes (gives n) h = search among
-sent-as l f w bytes (number n) h = among-number l n (h .one n refl)
-
-sending-numbers : (l : List ℕ) (f : Function) (w : Word) (p : Packet) (load out : List ℕ) → isAmong 17 l ≡ true → Sendable p (length load) → Among l (sending f w p load out)
-unfolding sending
-sending-numbers l f w p load out h s = sent-as l f w (bytesOf p load) (writing p (length load) (length out)) (only-room l p (length load) (length out) h s)
-
 asking-numbers : (f : Function) (address units : ℕ) (nowrite : Bool) (out : List ℕ) → Among (6 ∷ 12 ∷ 11 ∷ 17 ∷ []) (asking f address units nowrite out)
 unfolding asking
 asking-numbers f address units nowrite out = search (among, sending-numbers, fit)
@@ -123,36 +109,6 @@ entering-numbers way stu address (Hit e) = search among
 lookingUp-numbers : (f : Function) (way : Way) (address words load : ℕ) → Among (6 ∷ 12 ∷ 13 ∷ 14 ∷ []) (lookingUp f way address words load)
 unfolding lookingUp
 lookingUp-numbers f way address words load = search (among, entering-numbers)
-
--- what an access that goes somewhere passed
-record Reached (way : Way) (words load : ℕ) (at : Target) : Type 0 where
-  some : 1 ≤ words
-  few : words ≤ 32
-  fills : load ≡ loadFor way words
-  dword : at .address % 4 ≡ 0
-
-target-dword : (stu address : ℕ) (e : Entry) → address % 4 ≡ 0 → targetOf stu address e .address % 4 ≡ 0
-target-dword stu address e h = byCases (e .u) (λ u. rw u h) (λ u. rw u (moved-low (e .to) address (unitExponent stu) 2 (omega arith) (omega arith) ∙ h))
-
-entered-dword : (way : Way) (stu address : ℕ) (entry : Found) (at : Target) → address % 4 ≡ 0 → enteredBy way stu address entry ≡ gives at → at .address % 4 ≡ 0
-entered-dword way stu address Miss at h e = let z : _≡_ {A = ℕ} 0 1 = cc in absurd (omega arith)
-entered-dword way stu address (Hit x) at h e = rw (same-gift (demanded (isAllowed way x) 14 (gives (targetOf stu address x)) e .1)) at (target-dword stu address x h)
-
-reached : (f : Function) (way : Way) (address words load : ℕ) (at : Target) → lookingUp f way address words load ≡ gives at → Reached way words load at
-unfolding lookingUp
-reached f way address words load at e =
-    let on = demanded (f .enabled) 6 _ e in
-    let page = demanded (isInPage address words) 12 _ (on .1) in
-    let load-is = demanded (eqb load (loadFor way words)) 12 _ (page .1) in
-    let some = and-both (leb 1 words) _ (page .0) in
-    let few = and-both (leb words 32) _ (some .1) in
-    let dword = and-both (eqb (address % 4) 0) _ (few .1) in
-    record {
-      some = leb-true 1 words (some .0);
-      few = leb-true words 32 (few .0);
-      fills = eqb-true load (loadFor way words) (load-is .0);
-      dword = entered-dword way (f .stu) address (found (f .cache .slots) (unitAt (f .stu) address)) at (eqb-true (address % 4) 0 (dword .0)) (load-is .1);
-    }
 
 going-numbers : (f : Function) (way : Way) (at : Target) (address words : ℕ) (load out : List ℕ) → Reached way words (length load) at → Among (11 ∷ 17 ∷ []) (going f way at address words load out)
 going-numbers f ToRead at address words load out h = search (among, sending-numbers, fit)

@@ -24,6 +24,11 @@ pub byCases : {A : Type 0} (t : Bool) → (t ≡ true → A) → (t ≡ false �
 byCases true f g = f refl
 byCases false f g = g refl
 
+-- what holds in both cases of a test holds of what the test chooses
+pub either-case : {A : Type 0} (P : A → Type 0) (t : Bool) (a b : A) → (t ≡ true → P a) → (t ≡ false → P b) → P (cond t a b)
+either-case P true a b f g = f refl
+either-case P false a b f g = g refl
+
 pub and-both : (t u : Bool) → (t && u) ≡ true → (t ≡ true) × (u ≡ true)
 and-both true u e = (refl, e)
 and-both false u e = let z : _≡_ {A = ℕ} 0 1 = cc in absurd (omega arith)

@@ -7,3 +7,4 @@ pub mod Writing
 pub mod Normal
 pub mod Laws
 pub mod Told
+pub mod Among

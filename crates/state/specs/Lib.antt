@@ -2,3 +2,4 @@ pub mod State
 pub mod Answers
 pub mod Ends
 pub mod Switches
+pub mod Laws

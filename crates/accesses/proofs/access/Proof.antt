@@ -1,5 +1,6 @@
 use mathlib.Core.Path.{sym, ap, _∙_}
-use Rattle.accesses.specs.Access.{accessing, few-words, paperGoes}
+use Rattle.accesses.specs.Access.{accessing, paperGoes}
+use Rattle.accesses.specs.Laws.{reached}
 use borrow.Author.Needs.{needs}
 use Rattle.accesses.proofs.access.Statement.{statement}
 use Rattle.accesses.proofs.access.Tie as tie
@@ -12,7 +13,7 @@ enum-known-at c = search needs
 
 go-requires : tie.Need-go-requires
 go-requires c κs = let l = c .before .before .before .before in
-    few-words _ _ _ _ _ _ (sym (l .look-up .ensures) ∙ ap paperGoes (c .before .before .at .given .1))
+    reached _ _ _ _ _ _ (sym (l .look-up .ensures) ∙ ap paperGoes (c .before .before .at .given .1)) .few
 
 enum-known-r : tie.Need-enum-known-r
 enum-known-r c = search needs

@@ -6,32 +6,24 @@ use Prim.Native.Nat.{ℕ, _+_, _*_, _%_, _<_, _≤_}
 use native.Mathlib.Omega.{arith}
 use lib.Dec.{ltb, eqb, lit≤}
 use borrow.Author.Tests.{eqb-true, lt-ltb, le-leb, eq-eqb, ne-eqb}
-use Rattle.lemmas.specs.Cases.{byCases, and-both, never-both}
+use Rattle.lemmas.specs.Cases.{byCases, either-case, and-both, never-both}
 use Rattle.packet.specs.declared.Choice.{Choice}
 use Rattle.packet.specs.declared.Choice.the-variants.{Listed, Unlisted}
 use Rattle.packet.specs.declared.Frame.{Frame}
 use Rattle.packet.specs.declared.Form.{Form}
 use Rattle.packet.specs.declared.Head.{Head}
 use Rattle.packet.specs.declared.Tag.{Tag}
 use Rattle.packet.specs.declared.Access.the-variants.{Read, Write}
 use Rattle.packet.specs.declared.TranslationRequest.{TranslationRequest}
-use Rattle.packet.specs.declared.MemoryRequest.{MemoryRequest}
 use Rattle.packet.specs.declared.InvalidateCompletion.{InvalidateCompletion}
 use Rattle.packet.specs.declared.PageRequest.{PageRequest}
-use Rattle.packet.specs.declared.Body.{Body}
 use Rattle.packet.specs.declared.Body.the-variants.{Tr, Mem, Ic, Prq}
 use Rattle.packet.specs.declared.Packet.{Packet}
 use Rattle.packet.specs.Numbers.{Said, gives, number}
-use Rattle.packet.specs.Forms.{choose, dwordsOf, fixedOf}
-use Rattle.packet.specs.Frames.{frameOf}
+use Rattle.packet.specs.Forms.{fixedOf}
 use Rattle.packet.specs.Kinds.{withinBody, allowedBody, allowed, shortEnough, loadOf, formOf}
 use Rattle.packet.specs.Reading.{readForm, readChoice, reading}
 use Rattle.packet.specs.Writing.{writing}
-
--- what holds in both cases of a test holds of what the test chooses
-pub either-case : {A : Type 0} (P : A → Type 0) (t : Bool) (a b : A) → (t ≡ true → P a) → (t ≡ false → P b) → P (cond t a b)
-either-case P true a b f g = f refl
-either-case P false a b f g = g refl
 
 abbrev pub isAmong : ℕ → List ℕ → Bool
 isAmong n [] = false

@@ -1,1 +1,2 @@
 pub mod Drain
+pub mod Laws

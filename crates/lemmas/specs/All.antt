@@ -5,14 +5,11 @@ use mathlib.Core.Logic.{⊎-elim}
 use Prim.Native.Nat.{ℕ, zero, suc, _+_, _<_}
 use native.Mathlib.Nat.{not-suc-le-zero, le-of-suc-le-suc, eq-or-lt-of-le}
 use native.Mathlib.Numerals.{add-one}
+use Rattle.lemmas.specs.Cases.{and-false}
 
 unfoldable pub allTo : (ℕ → Bool) → ℕ → Bool
 allTo p zero = true
 allTo p (suc k) = allTo p k && p k
-
-and-false : (b : Bool) → (b && false) ≡ false
-and-false true = refl
-and-false false = refl
 
 -- A loop that goes up and stops at the first number that fails: before it, in a turn, where it stops
 module _ (p : ℕ → Bool) where

@@ -6,3 +6,4 @@ pub mod Gather
 pub mod Run
 pub mod All
 pub mod Tests
+pub mod Bits

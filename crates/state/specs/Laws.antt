@@ -1,7 +1,7 @@
 -- Laws of the state, and of what calls leave and say.
 use mathlib.Core.Path.{_≡_, refl}
 use mathlib.Core.Bool.{Bool, true, false, cond}
-use mathlib.Core.List.{List}
+use mathlib.Core.List.{List, []}
 use Prim.Native.Nat.{ℕ}
 use native.Mathlib.Omega.{arith}
 use lib.ListN.{length}
@@ -12,13 +12,13 @@ use Rattle.packet.specs.Among.{isAmong, Among, among-gift, among-number, Sendab
 use Rattle.packet.specs.Writing.{writing, bytesOf}
 use Rattle.state.specs.declared.Function.{Function}
 use Rattle.state.specs.State.{rcbOf, fresh}
-use Rattle.state.specs.Answers.{Word, done, Deed, plainly, sentAs, sending}
+use Rattle.state.specs.Answers.{Word, Deed, ended, plainly, sentAs, sending}
 use Rattle.state.specs.Switches.{resetting}
 
--- a new Function is as after a reset with ID 0, STU 0 and RCB 64
-pub new-is-reset : resetting 0 0 64 ≡ plainly (fresh 0 0 (rcbOf 64)) done
+-- a reset with ID 0, STU 0 and RCB 64 leaves a new Function, whatever was before
+pub reset-is-new : (f : Function) (out : List ℕ) → ended f out (resetting 0 0 64) .state ≡ fresh 0 0 (rcbOf 64)
 unfolding resetting
-new-is-reset = refl
+reset-is-new f out = refl
 
 -- what is sent is refused only for want of room
 pub sending-numbers : (l : List ℕ) (f : Function) (w : Word) (p : Packet) (load out : List ℕ) → isAmong 17 l ≡ true → Sendable p (length load) → Among l (sending f w p load out)
@@ -29,26 +29,31 @@ sending-numbers l f w p load out h s = go (writing p (length load) (length out))
     go (gives n) h = among-gift l (record { state = f; word = w; sent = n; bytes = bytesOf p load })
     go (number n) h = among-number l n (h .one n refl)
 
--- Q holds of the state that a call leaves, if it is not refused
-pub record Leaves (Q : Function → Type 0) (s : Said Deed) : Type 0 where
-  pub after : (d : Deed) → s ≡ gives d → Q (d .state)
+-- Q holds of what a call does, if it is not refused
+pub record Does (Q : Deed → Type 0) (s : Said Deed) : Type 0 where
+  pub deed : (d : Deed) → s ≡ gives d → Q d
 
-module _ (Q : Function → Type 0) where
-  pub leaves-plain : (g : Function) (w : Word) → Q g → Leaves Q (plainly g w)
-  leaves-plain g w h = record { after = λ d e. let same : g ≡ d .state = cc in rw same at h }
+module _ (Q : Deed → Type 0) where
+  pub does-plain : (g : Function) (w : Word) → Q (record { state = g; word = w; sent = 0; bytes = [] }) → Does Q (plainly g w)
+  does-plain g w h = record { deed = λ d e. let same : record { state = g; word = w; sent = 0; bytes = [] } ≡ d = cc in rw same at h }
 
-  pub leaves-number : (n : ℕ) → Leaves Q (number n)
-  leaves-number n = record { after = λ d e. let z : _≡_ {A = ℕ} 0 1 = cc in absurd (omega arith) }
+  pub does-number : (n : ℕ) → Does Q (number n)
+  does-number n = record { deed = λ d e. let z : _≡_ {A = ℕ} 0 1 = cc in absurd (omega arith) }
 
-  pub leaves-case : (t : Bool) (a b : Said Deed) → (t ≡ true → Leaves Q a) → (t ≡ false → Leaves Q b) → Leaves Q (cond t a b)
-  leaves-case t a b = either-case (Leaves Q) t a b
+  pub does-case : (t : Bool) (a b : Said Deed) → (t ≡ true → Does Q a) → (t ≡ false → Does Q b) → Does Q (cond t a b)
+  does-case t a b = either-case (Does Q) t a b
 
-  pub leaves-sent : (g : Function) (w : Word) (p : Packet) (load out : List ℕ) → Q g → Leaves Q (sending g w p load out)
+  pub does-send : (g : Function) (w : Word) (p : Packet) (load out : List ℕ) → ((n : ℕ) → Q (record { state = g; word = w; sent = n; bytes = bytesOf p load })) → Does Q (sending g w p load out)
   unfolding sending
-  leaves-sent g w p load out h = go (writing p (length load) (length out))
+  does-send g w p load out h = go (writing p (length load) (length out))
     where
-      go : (s : Said ℕ) → Leaves Q (sentAs g w (bytesOf p load) s)
-      go (gives n) = record { after = λ d e. let same : g ≡ d .state = cc in rw same at h }
-      go (number n) = leaves-number n
+      go : (s : Said ℕ) → Does Q (sentAs g w (bytesOf p load) s)
+      go (gives n) = record { deed = λ d e. let same : record { state = g; word = w; sent = n; bytes = bytesOf p load } ≡ d = cc in rw same at (h n) }
+      go (number n) = does-number n
 
-pub ruleset leaves = (leaves-plain, leaves-number, leaves-case, leaves-sent)
+pub ruleset does = (does-plain, does-number, does-case, does-send)
+
+-- what holds of the state before a call, and of the one that it leaves, holds after it
+pub ended-in : (Q : Function → Type 0) (f : Function) (out : List ℕ) (s : Said Deed) → Q f → Does (λ d. Q (d .state)) s → Q (ended f out s .state)
+ended-in Q f out (gives d) h k = k .deed d refl
+ended-in Q f out (number n) h k = h

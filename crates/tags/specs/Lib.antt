@@ -1,2 +1,3 @@
 pub mod Itags
 pub mod Tags
+pub mod Laws

@@ -213,6 +213,23 @@ module _ (e : Entry) (c : Cache) (all : length (c .slots) ≡ 32) where
       (λ m n r g. omega arith)
       s h))
 
+  -- so that no other gets an entry: it keeps its own, or loses it
+  pub fill-others : Single (c .slots) → (unit : ℕ) → (e .unit ≡ unit → ⊥) → (found (filled e c .slots) unit ≡ found (c .slots) unit) ⊎ (found (filled e c .slots) unit ≡ Miss)
+  fill-others s unit f = byCases (holds unit (slotAt (c .slots) (placeOf e c))) (λ h. inr (lost h)) (λ h. inl (fill-other unit f h))
+    where
+      at-place : slotAt (filled e c .slots) (placeOf e c) ≡ e
+      at-place = rw (fill-sets e c) (getD-set-same (c .slots) (placeOf e c) e nothing (rw all (place-lt e c)))
+
+      lost : holds unit (slotAt (c .slots) (placeOf e c)) ≡ true → found (filled e c .slots) unit ≡ Miss
+      lost h =
+          none-found (filled e c .slots) fill-long unit
+          (λ i u q. ⊎-elim
+          (λ a. let o = of-unit unit (slotAt (c .slots) (placeOf e c)) h in
+          let k : i ≡ placeOf e c = s i (placeOf e c) (rw a at u) (o .0) ((rw a at q) ∙ sym (o .1)) in
+          f (rw (k, at-place) at q))
+          (λ a. f (rw (a .1) at q))
+          (fill-slot e c i))
+
   -- the hand stays, or the unit had no entry and no slot was free
   pub fill-hand : (filled e c .hand ≡ c .hand) ⊎ ((found (c .slots) (e .unit) ≡ Miss) × ((i : ℕ) → i < 32 → slotAt (c .slots) i .used ≡ true))
   fill-hand =

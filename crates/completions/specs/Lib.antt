@@ -1,3 +1,4 @@
 pub mod Reads
 pub mod Translations
 pub mod Completions
+pub mod Laws

@@ -1,2 +1,3 @@
 pub mod Fits
 pub mod Fills
+pub mod Laws

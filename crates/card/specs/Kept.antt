@@ -1,0 +1,150 @@
+-- What every call keeps, and what can come into the cache.
+use mathlib.Core.Path.{_≡_, refl, sym, ap, _∙_}
+use mathlib.Core.Bool.{true}
+use mathlib.Core.List.{List}
+use mathlib.Core.Logic.{_⊎_, inl, inr, ⊎-elim}
+use Prim.Native.Nat.{ℕ, _≤_}
+use native.Mathlib.Omega.{arith}
+use lib.Dec.{leb, lit≤}
+use lib.ListN.{length}
+use borrow.Author.Tests.{leb-true}
+use Rattle.lemmas.specs.Cases.{byCases, and-both, never-both}
+use Rattle.packet.specs.declared.Completion.{Completion}
+use Rattle.packet.specs.Reading.{payloadIn}
+use Rattle.atc.specs.declared.Entry.{Entry}
+use Rattle.atc.specs.declared.Cache.{Cache}
+use Rattle.atc.specs.declared.Found.{Found}
+use Rattle.atc.specs.declared.Found.the-variants.{Hit, Miss}
+use Rattle.atc.specs.Cache.{nothing, emptied, found, slotAt, touches}
+use Rattle.atc.specs.Laws.{Single, empty-long, empty-slot, empty-single, found-is, found-only, span-slot, span-long, span-single}
+use Rattle.tags.specs.declared.Open.the-variants.{Ask}
+use Rattle.tags.specs.declared.Place.{Place}
+use Rattle.tags.specs.declared.Tr.{Tr}
+use Rattle.tags.specs.Tags.{heldAt}
+use Rattle.tags.specs.Laws.{placed-long, snooped-long, staled-long}
+use Rattle.pages.specs.declared.Group.{Group}
+use Rattle.pages.specs.declared.Pages.{Pages}
+use Rattle.pages.specs.Pages.{closedAll, used, switchedOff, switchedOn, stopped}
+use Rattle.pages.specs.Laws.{none-used, none-long, close-long, close-used, join-long, join-fits}
+use Rattle.replies.specs.declared.Rcb.{Rcb}
+use Rattle.replies.specs.Laws.{Brought, applied-single, applied-slot}
+use Rattle.state.specs.declared.Function.{Function}
+use Rattle.state.specs.State.{rcbOf, fresh}
+use Rattle.completions.specs.Translations.{isLive}
+use Rattle.card.specs.declared.Command.{Command}
+use Rattle.card.specs.Call.{step}
+use Rattle.card.specs.Tables.{Completing, Stable, step-keeps}
+
+-- ---- sound tables
+
+-- 32 slots and at most one entry a unit
+pub record SoundCache (c : Cache) : Type 0 where
+  pub slots : length (c .slots) ≡ 32
+  pub single : Single (c .slots)
+
+-- 32 groups, and no more credits in use than the allocation, which is 512 at most
+pub record SoundPages (p : Pages) : Type 0 where
+  pub groups : length (p .groups) ≡ 32
+  pub granted : p .allocation ≤ 512
+  pub within : used (p .groups) ≤ p .allocation
+
+-- both, and 32 tags
+pub record SoundTables (c : Cache) (places : List Place) (p : Pages) : Type 0 where
+  pub cache : SoundCache c
+  pub tags : length places ≡ 32
+  pub pages : SoundPages p
+
+abbrev pub Sound : Function → Type 0
+Sound f = SoundTables (f .cache) (f .places) (f .pages)
+
+empty-sound : (hand : ℕ) → SoundCache (emptied hand)
+empty-sound hand = record { slots = empty-long hand; single = empty-single hand }
+
+closed-sound : (p : Pages) → p .groups ≡ closedAll → p .allocation ≤ 512 → SoundPages p
+closed-sound p none few = record { groups = rw none none-long; granted = few; within = rw (none, none-used) (omega arith) }
+
+-- a Function that is new, or was reset, is sound,
+pub fresh-sound : (id stu : ℕ) (rcb : Rcb) → Sound (fresh id stu rcb)
+fresh-sound id stu rcb = record { cache = empty-sound 0; tags = refl; pages = closed-sound switchedOff refl (lit≤ tt) }
+
+-- and every call keeps it so
+pub sound-kept : (f : Function) (c : Command) (bytes out : List ℕ) → Sound f → Sound (step f c bytes out .state)
+sound-kept f c bytes out h = step-keeps f c bytes SoundTables kept out
+  where
+    groups : List Group
+    groups = f .pages .groups
+
+    all : length (f .pages .groups) ≡ 32
+    all = h .pages .groups
+
+    kept : Stable f c bytes SoundTables
+    kept =
+        record {
+          same = h;
+          reset = fresh-sound 0 0 (rcbOf 64);
+          enable = record { cache = empty-sound (f .cache .hand); tags = staled-long (f .places) ∙ h .tags; pages = h .pages };
+          place = λ t o. record { cache = h .cache; tags = placed-long (f .places) t o ∙ h .tags; pages = h .pages };
+          fill = λ x q o r e live. let s = applied-single q (f .stu) (payloadIn bytes) (f .cache) (h .cache .slots) (h .cache .single) in record { cache = record { slots = s .0; single = s .1 }; tags = placed-long (f .places) (x .tag) o ∙ h .tags; pages = h .pages };
+          snoop = λ range i. record { cache = record { slots = span-long (f .stu) range (f .cache .slots) (h .cache .slots); single = span-single (f .stu) range (f .cache .slots) (h .cache .single) }; tags = snooped-long (f .places) (f .stu) range i ∙ h .tags; pages = h .pages };
+          switchOn = λ allocation g. record { cache = h .cache; tags = h .tags; pages = closed-sound (switchedOn allocation) refl (leb-true allocation 512 (and-both (leb 1 allocation) (leb allocation 512) g .1)) };
+          switchOff = record { cache = h .cache; tags = h .tags; pages = closed-sound switchedOff refl (lit≤ tt) };
+          stop = record { cache = h .cache; tags = h .tags; pages = closed-sound stopped refl (lit≤ tt) };
+          request = λ q some. record { cache = h .cache; tags = h .tags; pages = record { groups = join-long groups all (q .index) (q .last); granted = h .pages .granted; within = join-fits groups all (q .index) (q .last) (f .pages .allocation) (omega (arith, h .pages .granted)) some } };
+          answer = λ k. record { cache = h .cache; tags = h .tags; pages = record { groups = close-long groups all k; granted = h .pages .granted; within = omega (arith, close-used groups all k, h .pages .within) } };
+        }
+
+-- ---- what comes into the cache
+
+-- an entry that a completion brings when it is received, while its tag is open for a Translation Request that is not stale and E is set
+pub record Came (f : Function) (c : Command) (bytes : List ℕ) (e : Entry) : Type 0 where
+  pub completion : Completion
+  pub comes : Completing c bytes completion
+  pub request : Tr
+  pub held : heldAt (f .places) (completion .tag) ≡ Ask request
+  pub live : isLive f request ≡ true
+  pub brought : Brought request (f .stu) (payloadIn bytes) e
+
+module _ (f : Function) (c : Command) (bytes out : List ℕ) where
+  abbrev after : List Entry
+  after = step f c bytes out .state .cache .slots
+
+  -- after a call each slot holds what it held, or nothing, or what came so
+  pub slot-after : length (f .cache .slots) ≡ 32 → (i : ℕ) → (slotAt after i ≡ slotAt (f .cache .slots) i) ⊎ ((slotAt after i ≡ nothing) ⊎ Came f c bytes (slotAt after i))
+  slot-after all i = step-keeps f c bytes (λ d l p. From (slotAt (d .slots) i)) kept out
+    where
+      From : Entry → Type 0
+      From x = (x ≡ slotAt (f .cache .slots) i) ⊎ ((x ≡ nothing) ⊎ Came f c bytes x)
+
+      kept : Stable f c bytes (λ d l p. From (slotAt (d .slots) i))
+      kept =
+          record {
+            same = inl refl;
+            reset = inr (inl (empty-slot 0 i));
+            enable = inr (inl (empty-slot (f .cache .hand) i));
+            place = λ t o. inl refl;
+            fill = λ x q o r e live. ⊎-elim inl (λ s. inr (⊎-elim inl (λ b. inr (record { completion = x; comes = r; request = q; held = e; live = live; brought = b })) s)) (applied-slot q (f .stu) (payloadIn bytes) (f .cache) all i);
+            snoop = λ range itag. rw (span-slot (f .stu) range (f .cache .slots) i) (byCases (touches (f .stu) range (slotAt (f .cache .slots) i)) (λ u. rw u (inr (inl refl))) (λ u. rw u (inl refl)));
+            switchOn = λ allocation g. inl refl;
+            switchOff = inl refl;
+            stop = inl refl;
+            request = λ q g. inl refl;
+            answer = λ k. inl refl;
+          }
+
+  -- so that each unit has the entry that it had, or none, or one that came so
+  pub entry-after : Sound f → (unit : ℕ) → (found after unit ≡ found (f .cache .slots) unit) ⊎ ((found after unit ≡ Miss) ⊎ ((x : Entry) × ((found after unit ≡ Hit x) × Came f c bytes x)))
+  entry-after h unit = go (found after unit) refl
+    where
+      go : (r : Found) → found after unit ≡ r → (found after unit ≡ found (f .cache .slots) unit) ⊎ ((found after unit ≡ Miss) ⊎ ((x : Entry) × ((found after unit ≡ Hit x) × Came f c bytes x)))
+      go Miss e = inr (inl e)
+      go (Hit x) e =
+          let s = found-is after (sound-kept f c bytes out h .cache .slots) unit x e in
+          let i = s .2 .0 in
+          let there : slotAt after i ≡ x = s .2 .2 in
+          ⊎-elim
+          (λ a. let old : slotAt (f .cache .slots) i ≡ x = sym a ∙ there in
+          inl (e ∙ sym (found-only (f .cache .slots) (h .cache .slots) unit (h .cache .single) i (rw old (s .0)) (rw old (s .1)) ∙ ap Hit old)))
+          (⊎-elim
+          (λ a. let none : x ≡ nothing = sym there ∙ a in absurd (never-both _ (s .0) (rw none)))
+          (λ a. inr (inr (x, (e, rw there at a)))))
+          (slot-after (h .cache .slots) i)

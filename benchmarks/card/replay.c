@@ -60,8 +60,8 @@ uint64_t REPLAY(const uint64_t *numbers, size_t count, const uint8_t *pool, size
         struct step s = step_at(numbers, pool, i);
         struct answer a = call(&f, s, out);
         if (checked && a.payload) sum = mix_bytes(sum, a.payload, s.load - 12);
-        sum = mix(mix(sum, a.word * 65536u + a.value), a.sent);
         if (checked) sum = mix_bytes(sum, out, out_size);
+        sum = mix(mix(sum, a.word * 65536u + a.value), a.sent);
     }
     return mix(mix_bytes(sum, out, out_size), state_digest(&f));
 }

@@ -140,11 +140,12 @@ pub extern "C" fn card_by_call(script: &[u64], pool: &[u8], out: &mut [u8], chec
         let room = room_of(s, out.len());
         let e = card::call(f, command(s), bytes, &mut out[..room]);
         let answer = e.answer;
+        let sent = e.sent;
         f = e.state;
-        sum = sums::of_answer(sum, answer, e.sent);
         if checked {
             sum = sums::of_bytes(sum, out);
         }
+        sum = sums::of_answer(sum, answer, sent);
     }
     sums::mix(sums::of_bytes(sum, out), snapshot::state_digest(f))
 }
@@ -171,11 +172,12 @@ pub extern "C" fn card_by_single_calls(
         let room = room_of(s, out.len());
         let e = single(f, s, bytes, &mut out[..room]);
         let answer = e.answer;
+        let sent = e.sent;
         f = e.state;
-        sum = sums::of_answer(sum, answer, e.sent);
         if checked {
             sum = sums::of_bytes(sum, out);
         }
+        sum = sums::of_answer(sum, answer, sent);
     }
     sums::mix(sums::of_bytes(sum, out), snapshot::state_digest(f))
 }

@@ -17,6 +17,7 @@ struct maker {
     uint8_t out[OUT];
 };
 
+// Draws stand only where C fixes their order, so that every compiler makes the same script.
 static unsigned pick(struct maker *m, unsigned n) {
     m->seed = m->seed * 6364136223846793005 + 1442695040888963407;
     return (m->seed >> 33) % n;
@@ -133,7 +134,8 @@ static uint64_t place(struct maker *m) {
 static uint64_t translation(struct maker *m, unsigned size) {
     static const uint8_t rights[16] = {3, 3, 3, 3, 3, 3, 3, 3, 3, 3, 1, 1, 1, 1, 2, 0};
     uint64_t to = one_in(m, 2) ? pick64(m) & 0xFFFFFFFF : pick64(m);
-    return coded(to, size) | rights[pick(m, 16)] | one_in(m, 16) << 2 | one_in(m, 4) << 10;
+    unsigned right = rights[pick(m, 16)], untranslated = one_in(m, 16), no_snoop = one_in(m, 4);
+    return coded(to, size) | right | untranslated << 2 | no_snoop << 10;
 }
 
 // A tag that is open for this, from a place picked; 32 where none is.
@@ -156,7 +158,8 @@ static void make_ask(struct maker *m) {
     static const uint8_t most[4] = {1, 2, 4, 16};
     unsigned units = 1 + pick(m, most[pick(m, 4)]);
     if (units > m->f.rcb / 8u) units = m->f.rcb / 8;
-    emit(m, ASK, one_in(m, 8), units, place(m) + pick(m, 4096), OUT, 0, 0);
+    unsigned nowrite = one_in(m, 8), offset = pick(m, 4096);
+    emit(m, ASK, nowrite, units, place(m) + offset, OUT, 0, 0);
 }
 
 // A reply in one packet, or the first of two; or, where one has come, the second.
@@ -221,7 +224,7 @@ static void make_invalidation(struct maker *m) {
 }
 
 static void make_page_request(struct maker *m) {
-    unsigned index = pick(m, 32), flags = (1 + pick(m, 3)) << 1 | one_in(m, 2);
+    unsigned index = pick(m, 32), rights = 1 + pick(m, 3), last = one_in(m, 2), flags = rights << 1 | last;
     if (m->f.groups[index].waits) index = pick(m, 32);
     emit(m, REQUEST_PAGE, flags, index, place(m), OUT, 0, 0);
 }
@@ -236,28 +239,35 @@ static void make_response(struct maker *m) {
 static void make_wrong(struct maker *m) {
     static const uint8_t first[8] = {0x00, 0x20, 0x40, 0x60, 0x0A, 0x4A, 0x32, 0x30};
     uint8_t b[144] = {0};
-    unsigned id = m->f.id;
-    switch (pick(m, 12)) {
+    unsigned id = m->f.id, wrong = pick(m, 12), small = pick(m, 16), some = pick(m, 32), other = pick(m, 4096);
+    uint64_t address = place(m);
+    switch (wrong) {
     case 0: emit_packet(m, b, pick(m, 12)); break;
     case 1: b[0] = pick(m, 256); b[3] = 1; emit_packet(m, b, 16); break;
     case 2: b[0] = first[pick(m, 8)]; b[2] = 0x40; b[3] = 1; b[7] = 2 + pick(m, 4); emit_packet(m, b, 12 + 4 * pick(m, 3)); break;
     case 3: b[0] = first[pick(m, 8)]; b[2] = pick(m, 16); b[3] = 1 + pick(m, 3); b[7] = 0xFF; emit_packet(m, b, 12 + 4 * pick(m, 5)); break;
     case 4: m->f.id ^= 1; emit_status(m, pick(m, 32), 4); m->f.id = id; break;
     case 5: emit_status(m, pick(m, 256), 0); break;
-    case 6: emit(m, READ, 0, pick(m, 40), place(m) + pick(m, 4096), OUT, 0, 0); break;
-    case 7: emit(m, WRITE, 0, 2, place(m) + 0x40000000, OUT, b, 8); break;
-    case 8: emit(m, ASK, 0, pick(m, 32), pick(m, 2) ? UINT64_MAX - pick(m, 65536) : place(m), OUT, 0, 0); break;
-    case 9: emit(m, pick(m, 2) ? ASK : DRAIN, 0, 1, place(m), pick(m, 16), 0, 0); break;
-    case 10: emit_completion(m, pick(m, 32), 8 * pick(m, 20), 0, b, 8); break;
+    case 6: emit(m, READ, 0, some + small, address + other, OUT, 0, 0); break;
+    case 7: emit(m, WRITE, 0, 2, address + 0x40000000, OUT, b, 8); break;
+    case 8: emit(m, ASK, 0, some, small % 2 ? UINT64_MAX - 16 * other : address, OUT, 0, 0); break;
+    case 9: emit(m, some % 2 ? ASK : DRAIN, 0, 1, address, small, 0, 0); break;
+    case 10: emit_completion(m, some, 8 * small, 0, b, 8); break;
     default: emit_invalidation(m, m->f.agent_known ? m->f.agent + 1 : 8, pick(m, 32), 0x200000); break;
     }
 }
 
 static void make_start(struct maker *m) {
     static const uint8_t stus[4] = {0, 0, 1, 4};
-    emit_reset(m, pick(m, 65536), stus[pick(m, 4)], one_in(m, 2) ? 64 : 128);
+    unsigned id = pick(m, 65536), stu = stus[pick(m, 4)], rcb = one_in(m, 2) ? 64 : 128;
+    emit_reset(m, id, stu, rcb);
     emit_plain(m, ENABLE, 0);
     emit_plain(m, SWITCH_ON, 16 + pick(m, 497));
+}
+
+static void make_switch(struct maker *m) {
+    unsigned allocation = 16 + pick(m, 500);
+    emit_plain(m, one_in(m, 20) ? SWITCH_OFF : SWITCH_ON, allocation);
 }
 
 static void make_mixed(struct maker *m) {
@@ -278,7 +288,7 @@ static void make_mixed(struct maker *m) {
     else if (k < 95) make_response(m);
     else if (k < 99) make_wrong(m);
     else if (one_in(m, 2)) emit_plain(m, one_in(m, 20) ? DISABLE : ENABLE, 0);
-    else if (one_in(m, 4)) emit_plain(m, one_in(m, 20) ? SWITCH_OFF : SWITCH_ON, 16 + pick(m, 500));
+    else if (one_in(m, 4)) make_switch(m);
     else if (one_in(m, 40)) make_start(m);
     else emit_reset(m, 0, 32 + pick(m, 9), 64);
 }

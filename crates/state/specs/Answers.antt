@@ -63,11 +63,11 @@ ended f out (number n) = record { state = f; says = number n; sent = 0; buffer =
 abbrev pub told : Effect → List ℕ → Result
 told r out = record { state = r .state; says = paper (r .answer); sent = r .sent; buffer = out }
 
-abbrev pub refusedWith : Function → Refusal → Effect
-refusedWith f r = record { state = f; answer = Refused r; sent = 0 }
-
 abbrev pub plain : Function → Answer → Effect
 plain f a = record { state = f; answer = a; sent = 0 }
+
+abbrev pub refusedWith : Function → Refusal → Effect
+refusedWith f r = plain f (Refused r)
 
 -- a call that sends nothing
 abbrev pub plainly : Function → Word → Said Deed

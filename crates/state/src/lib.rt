@@ -59,12 +59,7 @@ pub struct Effect {
 pub fn refused(f: Function, r: Refusal) -> Effect
     ensures { λ o. ⌜ o ≡ refusedWith f r ⌝ }
 {
-    let answer = Answer::Refused(r);
-    Effect {
-        state: f,
-        answer,
-        sent: 0,
-    }
+    answered(f, Answer::Refused(r))
 }
 
 // A call that sends nothing.

@@ -117,7 +117,7 @@ fn play(input: &[u8], out: &mut [u8]) -> usize {
     let mut at = 0;
     let mut from = 0;
     while from < input.len() {
-        let end = trial::line_end(input, from);
+        let end = from + trial::line_length(&input[from..]);
         let played = play_line(f, &input[from..end], out, at);
         f = played.state;
         at = put::byte(out, played.at, b'\n');

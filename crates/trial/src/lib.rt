@@ -16,14 +16,13 @@ pub enum Trial {
     Sizes,
 }
 
-// Where the line that begins at `from` ends: at its line feed, or where the input does.
-pub fn line_end(input: &[u8], from: usize) -> usize
-    requires { ⌜ from ≤ length (now input) ⌝ }
-    ensures { λ r. ⌜ (from ≤ r) × (r ≤ length (now (input .entry))) ⌝ }
+// How long the first line of a text is: to its line feed, or to the end.
+pub fn line_length(text: &[u8]) -> usize
+    ensures { λ r. ⌜ r ≤ length (now (text .entry)) ⌝ }
 {
-    let mut at = from;
-    while at < input.len() {
-        if input[at] == b'\n' {
+    let mut at = 0;
+    while at < text.len() {
+        if text[at] == b'\n' {
             return at;
         }
         at += 1;
@@ -155,7 +154,7 @@ pub fn run(trial: Trial, input: &[u8], out: &mut [u8]) -> usize {
     let mut at = 0;
     let mut from = 0;
     while from < input.len() {
-        let end = line_end(input, from);
+        let end = from + line_length(&input[from..]);
         let text = line(trial, &input[from..end], out, at);
         at = put::byte(out, text, b'\n');
         if end == input.len() {

@@ -17,8 +17,20 @@ new-requires c κs = search needs
 loop-holds : tie.Need-loop-holds Inv-loop μ-loop
 loop-holds c = search needs
 
-line-end-requires : tie.Need-line-end-requires Inv-loop μ-loop
-line-end-requires c κs = search needs
+sub-line-length : tie.Need-sub-line-length Inv-loop μ-loop
+sub-line-length c = search needs
+
+part-line-length-start : tie.Need-part-line-length-start Inv-loop μ-loop
+part-line-length-start c = search needs
+
+part-line-length-end : tie.Need-part-line-length-end Inv-loop μ-loop
+part-line-length-end c = search needs
+
+line-length-requires : tie.Need-line-length-requires Inv-loop μ-loop
+line-length-requires c κs = search needs
+
+add-end : tie.Need-add-end Inv-loop μ-loop
+add-end c = search needs
 
 sub-play-line : tie.Need-sub-play-line Inv-loop μ-loop
 sub-play-line c = search needs
@@ -64,7 +76,11 @@ play-spec =
     μ-loop
     new-requires
     loop-holds
-    line-end-requires
+    sub-line-length
+    part-line-length-start
+    part-line-length-end
+    line-length-requires
+    add-end
     sub-play-line
     part-play-line-start
     part-play-line-end

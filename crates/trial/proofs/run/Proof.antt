@@ -14,8 +14,20 @@ abbrev μ-loop : tie.MeasureT-loop
 loop-holds : tie.Need-loop-holds Inv-loop μ-loop
 loop-holds c = search needs
 
-line-end-requires : tie.Need-line-end-requires Inv-loop μ-loop
-line-end-requires c κs = search needs
+sub-line-length : tie.Need-sub-line-length Inv-loop μ-loop
+sub-line-length c = search needs
+
+part-line-length-start : tie.Need-part-line-length-start Inv-loop μ-loop
+part-line-length-start c = search needs
+
+part-line-length-end : tie.Need-part-line-length-end Inv-loop μ-loop
+part-line-length-end c = search needs
+
+line-length-requires : tie.Need-line-length-requires Inv-loop μ-loop
+line-length-requires c κs = search needs
+
+add-end : tie.Need-add-end Inv-loop μ-loop
+add-end c = search needs
 
 sub-line : tie.Need-sub-line Inv-loop μ-loop
 sub-line c = search needs
@@ -60,7 +72,11 @@ run-spec =
     Inv-loop
     μ-loop
     loop-holds
-    line-end-requires
+    sub-line-length
+    part-line-length-start
+    part-line-length-end
+    line-length-requires
+    add-end
     sub-line
     part-line-start
     part-line-end

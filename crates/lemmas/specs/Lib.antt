@@ -7,3 +7,5 @@ pub mod Run
 pub mod All
 pub mod Tests
 pub mod Bits
+pub mod Bools
+pub mod Settled

@@ -1,3 +1,4 @@
 pub mod Fits
 pub mod Fills
 pub mod Laws
+pub mod Parts

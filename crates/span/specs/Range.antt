@@ -41,3 +41,7 @@ movedTo base a e = regionOf base e .first + (a - regionOf a e .first)
 -- two ranges overlap where each begins no later than the other ends
 abbrev pub meetsOf : Range → Range → Bool
 meetsOf a b = leb (a .first) (b .last) && leb (b .first) (a .last)
+
+-- one range lies in another
+abbrev pub isWithin : Range → Range → Bool
+isWithin a b = leb (b .first) (a .first) && leb (a .last) (b .last)

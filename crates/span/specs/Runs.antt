@@ -1,13 +1,15 @@
 -- Laws of runs of units and of places moved from region to region.
-use mathlib.Core.Path.{_≡_, sym, ap, _∙_}
+use mathlib.Core.Path.{_≡_, refl, sym, ap, _∙_}
+use mathlib.Core.Bool.{true, _&&_}
 use Prim.Native.Nat.{ℕ, _+_, _-_, _*_, _/_, _%_, _^_, _<_, _≤_, min}
-use native.Mathlib.Nat.{mul-le-mul-right, le-trans, min-le-right, le-min, div-mul-le-self, lt-div-mul-add, le-div-iff-mul-le, mul-assoc, div-add-mod', mul-add-mod-self-right}
+use native.Mathlib.Nat.{mul-le-mul-right, add-mul, one-mul, le-trans, min-eq-left, min-le-right, le-min, div-mul-le-self, lt-div-mul-add, le-div-iff-mul-le, mul-assoc, div-add-mod', mul-add-mod-self-right}
 use native.Mathlib.Omega.{arith}
-use lib.Pow.{pow-pos, pow-add, mod-mod-pow}
+use lib.Pow.{pow-pos, pow-add, mod-mod-pow, shr-shr, shl-shr}
 use lib.Dec.{leb}
+use borrow.Author.Tests.{le-leb}
 use Rattle.lemmas.specs.Powers.{region-lt}
 use Rattle.lemmas.specs.Tests.{same-leb}
-use Rattle.span.specs.Range.{regionOf, reachOf, unitsOf, movedTo}
+use Rattle.span.specs.Range.{regionOf, reachOf, runOf, unitExponent, unitBytes, unitsOf, movedTo, isWithin}
 
 -- the region that holds a byte begins no later,
 pub region-first : (a e : ℕ) → regionOf a e .first ≤ a
@@ -72,3 +74,35 @@ some-bytes n unit h k = omega (arith, mul-le-mul-right unit h)
 -- a region begins inside the address space
 pub region-lt-top : (a e : ℕ) → a < 2 ^ 64 → regionOf a e .first < 2 ^ 64
 region-lt-top a e h = omega (arith, region-first a e)
+
+-- ---- the units of a run
+
+-- a run begins with the unit of its address,
+pub run-first : (a further stu : ℕ) → runOf a further stu .first ≡ regionOf a (unitExponent stu) .first
+unfolding runOf reachOf
+run-first a further stu = refl
+
+-- for which the bits of the address below 4096 do not count
+pub run-low-bits : (a further stu : ℕ) → runOf (a / 4096 * 4096) further stu ≡ runOf a further stu
+unfolding runOf regionOf
+run-low-bits a further stu = rw (min-eq-left {n = 12 + stu % 32} {m = 64} (omega arith), ← shr-shr (a / 4096 * 4096) 12 (stu % 32), shl-shr (a / 4096) 12, shr-shr a 12 (stu % 32))
+
+step-le : (j n U : ℕ) → j < n → j * U + U ≤ n * U
+step-le j n U h = let most : (j + 1) * U ≤ n * U = mul-le-mul-right {m = j + 1} {n = n} U (omega arith) in rw (add-mul j 1 U, one-mul U) at most
+
+-- and each of its units that begins in it lies in it
+pub run-holds : (a further stu j : ℕ) → j < unitsOf further → regionOf a (unitExponent stu) .first + j * unitBytes stu ≤ runOf a further stu .last
+    → isWithin (regionOf (regionOf a (unitExponent stu) .first + j * unitBytes stu) (unitExponent stu)) (runOf a further stu) ≡ true
+unfolding regionOf runOf reachOf
+run-holds a further stu j among inside =
+    rw (min-eq-left {n = 12 + stu % 32} {m = 64} (omega arith)) (within (12 + stu % 32) (a / 2 ^ (12 + stu % 32)) (unitsOf further) (omega arith) among (rw (min-eq-left {n = 12 + stu % 32} {m = 64} (omega arith)) at inside))
+  where
+    within : (e n m : ℕ) → e ≤ 64 → j < m → n * 2 ^ e + j * 2 ^ e ≤ min (n * 2 ^ e + (m * 2 ^ e - 1)) (2 ^ 64 - 1)
+        → (leb (n * 2 ^ e) ((n * 2 ^ e + j * 2 ^ e) / 2 ^ e * 2 ^ e) && leb ((n * 2 ^ e + j * 2 ^ e) / 2 ^ e * 2 ^ e + (2 ^ e - 1)) (min (n * 2 ^ e + (m * 2 ^ e - 1)) (2 ^ 64 - 1))) ≡ true
+    within e n m small few h =
+        let x = n * 2 ^ e + j * 2 ^ e in
+        let own : x / 2 ^ e * 2 ^ e ≡ x = ap (λ (k : ℕ). k / 2 ^ e * 2 ^ e) (sym (add-mul n j (2 ^ e))) ∙ ap (λ (k : ℕ). k * 2 ^ e) (shl-shr (n + j) e) ∙ add-mul n j (2 ^ e) in
+        let low : x < 2 ^ 64 = omega (arith, h, min-le-right (n * 2 ^ e + (m * 2 ^ e - 1)) (2 ^ 64 - 1)) in
+        let top : x + (2 ^ e - 1) < 2 ^ 64 = rw own at (region-lt 64 e x low small) in
+        let most = step-le j m (2 ^ e) few in
+        rw (own, le-leb (n * 2 ^ e) x (omega arith)) (le-leb (x + (2 ^ e - 1)) (min (n * 2 ^ e + (m * 2 ^ e - 1)) (2 ^ 64 - 1)) (le-min (omega (arith, most)) (omega (arith, top))))

@@ -1,16 +1,18 @@
 -- Laws of ITag vectors and of the tags.
 use mathlib.Core.Path.{_≡_, refl, sym, ap, _∙_}
-use mathlib.Core.Bool.{Bool, true, false, not, _&&_, _||_}
-use mathlib.Core.List.{List, [], _∷_}
+use mathlib.Core.Bool.{Bool, true, false, not, cond, _&&_, _||_}
+use mathlib.Core.List.{List, [], _∷_, map}
 use mathlib.Core.Logic.{_↔_}
 use Prim.Native.Nat.{ℕ, zero, suc, _^_, _≤_}
 use native.Mathlib.Omega.{arith}
 use lib.Dec.{ltb, eqb}
 use lib.Bits.{bitOr}
-use lib.ListN.{length, getD, length-set, length-map, List·getD-eq-default}
+use lib.ListN.{length, getD, length-set, length-map, List·getD-eq-default, List·getD-map}
 use lib.Seq.{getD-set-same, getD-set-other}
 use borrow.Author.Tests.{eqb-true, eqb-false, ltb-true, ltb-false}
 use Rattle.lemmas.specs.Cases.{byCases, or-true, never-both}
+use Rattle.lemmas.specs.Bools.{no-tf}
+use Rattle.lemmas.specs.First.{firstAt, first-holds}
 use Rattle.lemmas.specs.Bits.{or-set, without-set, none-set, power-set}
 use Rattle.lemmas.specs.Gather.{gather}
 use Rattle.span.specs.declared.Range.{Range}
@@ -21,7 +23,7 @@ use Rattle.tags.specs.declared.Open.the-variants.{Free, Ask, Read}
 use Rattle.tags.specs.declared.Fetch.{Fetch}
 use Rattle.tags.specs.declared.Place.{Place}
 use Rattle.tags.specs.Itags.{place, isIn, joined, without}
-use Rattle.tags.specs.Tags.{holding, isTag, heldAt, placed, snoopedAt, snooped, staledAt, allStaled, noteAt, noted}
+use Rattle.tags.specs.Tags.{holding, isFree, freeAt, freeTag, isTag, heldAt, placed, touches, marked, snoopedAt, snooped, staled, staledAt, allStaled, noteAt, noted}
 
 -- ---- ITags in vectors
 
@@ -140,3 +142,55 @@ snooped-long places stu range i = length-map places (snoopedAt stu range i)
 pub staled-long : (places : List Place) → length (allStaled places) ≡ length places
 unfolding allStaled
 staled-long places = length-map places staledAt
+
+-- ---- every tag changed alike
+
+module _ (g : Open → Open) (at : Place → Place) (same : (p : Place) → at p .held ≡ g (p .held)) (free : g Free ≡ Free) (places : List Place) where
+  pub held-map : (t : Tag) → heldAt (map at places) t ≡ g (heldAt places t)
+  unfolding heldAt
+  held-map t = byCases (isTag t)
+      (λ u. rw u (ap (λ (d : Place). getD (map at places) (t .0) d .held) (sym nothing) ∙ ap (λ (p : Place). p .held) (List·getD-map at places (t .0) (holding Free)) ∙ same (getD places (t .0) (holding Free))))
+      (λ u. rw u (sym free))
+    where
+      nothing : at (holding Free) ≡ holding Free
+      nothing = ap (λ (o : Open). holding o) (same (holding Free) ∙ free)
+
+-- E set: every Translation Request goes stale
+pub staled-held : (places : List Place) (t : Tag) → heldAt (allStaled places) t ≡ staled (heldAt places t)
+unfolding allStaled
+staled-held places t = held-map staled staledAt (λ p. one (p .held) p refl) refl places t
+  where
+    one : (o : Open) (p : Place) → p .held ≡ o → staledAt p .held ≡ staled (p .held)
+    one Free p e = rw e
+    one (Ask q) p e = rw e
+    one (Read r) p e = rw e
+
+-- an invalidation marks what it concerns
+module _ (stu : ℕ) (range : Range) (i : ITag) where
+  abbrev pub snoopOf : Open → Open
+  snoopOf o = cond (touches stu range o) (marked i o) o
+
+  pub snooped-held : (places : List Place) (t : Tag) → heldAt (snooped stu range i places) t ≡ snoopOf (heldAt places t)
+  unfolding snooped touches
+  snooped-held places t = held-map snoopOf (snoopedAt stu range i) (λ p. one (touches stu range (p .held)) p) refl places t
+    where
+      one : (b : Bool) (p : Place) → cond b (holding (marked i (p .held))) p .held ≡ cond b (marked i (p .held)) (p .held)
+      one true p = refl
+      one false p = refl
+
+-- a tag that is stored is open for that, and no other changes
+pub held-placed : (places : List Place) (t : Tag) (o : Open) (u : Tag) → length places ≡ 32 → isTag t ≡ true → heldAt (placed places t o) u ≡ cond (eqb (u .0) (t .0)) o (heldAt places u)
+held-placed places t o u all own =
+    byCases (eqb (u .0) (t .0))
+    (λ e. let same : u ≡ t = ap (λ (k : ℕ). record { 0 = k }) (eqb-true (u .0) (t .0) e) in rw (e, same) (placed-own places t o all own))
+    (λ e. rw e (placed-other places t o u (eqb-false (u .0) (t .0) e)))
+
+-- the lowest free tag is free
+pub free-tag : (places : List Place) → length places ≡ 32 → isTag (freeTag places) ≡ true → heldAt places (freeTag places) ≡ Free
+unfolding heldAt freeTag
+free-tag places all own = rw own (is-free _ (first-holds freeAt places (holding Free) (omega (arith, all, ltb-true (firstAt freeAt places) 32 own))))
+  where
+    is-free : (o : Open) → isFree o ≡ true → o ≡ Free
+    is-free Free e = refl
+    is-free (Ask q) e = no-tf (sym e)
+    is-free (Read r) e = no-tf (sym e)

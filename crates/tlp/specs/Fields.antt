@@ -15,6 +15,7 @@ use Rattle.packet.specs.declared.Access.the-variants.{Read, Write}
 use Rattle.packet.specs.declared.Outcome.{Outcome}
 use Rattle.packet.specs.declared.Outcome.the-variants.{Data, Status}
 use Rattle.packet.specs.declared.TranslationRequest.{TranslationRequest}
+use Rattle.packet.specs.declared.MemoryRequest.{MemoryRequest}
 use Rattle.packet.specs.declared.InvalidateRequest.{InvalidateRequest}
 use Rattle.packet.specs.declared.InvalidateCompletion.{InvalidateCompletion}
 use Rattle.packet.specs.declared.PageRequest.{PageRequest}
@@ -46,6 +47,24 @@ TypedBody (Prs s) = s .device < 65536
 pub record Typed (p : Packet) : Type 0 where
   pub sender : p .head .sender < 65536
   pub body : TypedBody (p .body)
+
+-- packets that are typed
+module _ (head : Head) (sound : head .sender < 65536) where
+  pub typed-request : (t : TranslationRequest) → t .tag .0 < 256 → t .address < 18446744073709551616 → Typed (record { head = head; body = Tr t })
+  unfolding TypedBody
+  typed-request t tag address = record { sender = sound; body = (tag, address) }
+
+  pub typed-access : (m : MemoryRequest) → TypedAccess (m .access) → m .address < 18446744073709551616 → Typed (record { head = head; body = Mem m })
+  unfolding TypedBody
+  typed-access m access address = record { sender = sound; body = (access, address) }
+
+  pub typed-completion : (i : InvalidateCompletion) → i .device < 65536 → i .vector < 4294967296 → Typed (record { head = head; body = Ic i })
+  unfolding TypedBody
+  typed-completion i device vector = record { sender = sound; body = (device, vector) }
+
+  pub typed-page : (q : PageRequest) → q .page < 18446744073709551616 → Typed (record { head = head; body = Prq q })
+  unfolding TypedBody
+  typed-page q page = record { sender = sound; body = page }
 
 -- ---- flags and addresses
 

@@ -181,7 +181,7 @@ num16-lt b h i = let p = h i in let q = h (i + 1) in omega arith
 pub num32-lt : (b : List ℕ) → Bytes b → (i : ℕ) → num32At b i < 4294967296
 num32-lt b h i = let p = num16-lt b h i in let q = num16-lt b h (i + 2) in omega arith
 
-num64-lt : (b : List ℕ) → Bytes b → (i : ℕ) → num64At b i < 18446744073709551616
+pub num64-lt : (b : List ℕ) → Bytes b → (i : ℕ) → num64At b i < 18446744073709551616
 num64-lt b h i = let p = num32-lt b h i in let q = num32-lt b h (i + 4) in omega arith
 
 -- a field that may be missing

@@ -1,7 +1,7 @@
 -- What the layers above cite of packets, so that none of them opens one.
 use mathlib.Core.Path.{_≡_, refl, ap, _∙_}
 use mathlib.Core.Bool.{Bool, true, false, not}
-use mathlib.Core.List.{List}
+use mathlib.Core.List.{List, []}
 use Prim.Native.Nat.{ℕ, _/_, _^_, _<_}
 use native.Mathlib.Omega.{arith}
 use lib.Dec.{eqb}
@@ -16,7 +16,7 @@ use Rattle.packet.specs.declared.Frame.{Frame}
 use Rattle.packet.specs.declared.Form.{Form}
 use Rattle.packet.specs.declared.Form.the-variants.{Mrd32, Mrd64, Mwr32, Mwr64, CplNoData, CplData, InvReq, InvCpl, PageReq, PrgResp}
 use Rattle.packet.specs.declared.Body.the-variants.{Cpl, Inv}
-use Rattle.packet.specs.Numbers.{gives}
+use Rattle.packet.specs.Numbers.{gives, number}
 use Rattle.packet.specs.Laws.{accepted}
 use Rattle.packet.specs.Frames.{frameOf}
 use Rattle.packet.specs.Forms.{fixedOf}
@@ -56,6 +56,11 @@ module _ (p : Packet) (payload out : List ℕ) (n : ℕ) (ty : Typed p) (e : wri
 
   pub sent-payload : payloadIn (take n sent) ≡ payload
   sent-payload = rw sent-bytes (written-payload p payload (length out) n ty e)
+
+-- where nothing was sent there is no packet
+pub nothing-reads : reading [] ≡ number 1
+unfolding reading
+nothing-reads = refl
 
 -- ---- a packet that was read
 

@@ -7,3 +7,4 @@ pub mod Trips
 pub mod Laws
 pub mod Settled
 pub mod Translations
+pub mod Words

@@ -1,0 +1,293 @@
+-- Demand 3 of document 01, as a statement about any machine whose calls can be seen. `Demand3`, near the end, is the demand; all before it are its words.
+-- Lists of calls, and histories of what was seen of them, stand newest first.
+use mathlib.Core.Path.{_≡_}
+use mathlib.Core.Logic.{_⊎_}
+use mathlib.Core.Bool.{Bool, true, false, not, cond, _&&_}
+use mathlib.Core.List.{List, [], _∷_}
+use mathlib.Core.Option.{Option, none, some}
+use Prim.Native.Nat.{ℕ, zero, suc, _+_, _-_, _<_}
+use lib.Dec.{eqb, leb}
+use lib.ListN.{take}
+
+-- the library's Option·elim, which does not compute in a statement
+abbrev pub given : {A X : Type 0} → Option A → (A → X) → X → X
+given none f d = d
+given (some a) f d = f a
+
+-- f is false at each number below n
+abbrev pub noneBelow : ℕ → (ℕ → Bool) → Bool
+noneBelow zero f = true
+noneBelow (suc n) f = not (f n) && noneBelow n f
+
+-- ---- what is seen of a call
+
+-- What packets speak of, and what follows from it.
+pub record Terms : Type 1 where
+  -- an invalidated range, rounded up to the unit in force; the bytes that a read asks for; what a Translation Request asks for;
+  -- what a completion with data holds; a cache entry
+  pub Area : Type 0
+  pub Bytes : Type 0
+  pub Ask : Type 0
+  pub Data : Type 0
+  pub Entry : Type 0
+  -- these bytes, this entry's unit, overlap the area
+  pub meets : Area → Bytes → Bool
+  pub overlaps : Area → Entry → Bool
+  -- how many bytes a read asks for, how many a completion holds, and whether it is the last of its Translation Request
+  pub wanted : Bytes → ℕ
+  pub size : Data → ℕ
+  pub isLast : Data → Bool
+  -- for what was asked, and after so many bytes of completions to it, this one gives the entry
+  pub gives : Ask → ℕ → Data → Entry → Bool
+
+-- what an Invalidate Request is known by: its ITag, and the agent that sent it
+pub record Ticket : Type 0 where
+  pub agent : ℕ
+  pub number : ℕ
+
+abbrev pub same : Ticket → Ticket → Bool
+same i k = eqb (i .agent) (k .agent) && eqb (i .number) (k .number)
+
+-- what an unrefused call brought
+pub data Taken (T : Terms) : Type 0 where
+  -- a completion for this tag, with data or without
+  CPL : ℕ → Option (T .Data) → Taken T
+  -- an Invalidate Request
+  INV : Ticket → T .Area → Taken T
+  -- a drain call, for the ITags of these numbers
+  DRAIN : (ℕ → Bool) → Taken T
+
+-- the packet that a call sent
+pub data Sent (T : Terms) : Type 0 where
+  -- a Translation Request with this tag
+  TR : ℕ → T .Ask → Sent T
+  -- a read with this tag: translated (AT 10) or not, and its bytes
+  MEM : ℕ → Bool → T .Bytes → Sent T
+  -- an Invalidate Completion to this agent, for the ITags of these numbers
+  IC : ℕ → (ℕ → Bool) → Sent T
+
+-- What is seen of a call. Neither part hides the other. It took none of those, or was refused; it sent none of those.
+pub record Seen (T : Terms) : Type 0 where
+  pub took : Option (Taken T)
+  pub sent : Option (Sent T)
+
+-- ---- what follows from the calls
+
+-- an open request: a Translation Request, and the bytes that came for it; or a read, and the bytes that are still due
+pub data Pending (T : Terms) : Type 0 where
+  translation : T .Ask → ℕ → Pending T
+  fetch : Bool → T .Bytes → ℕ → Pending T
+
+module _ {T : Terms} where
+  abbrev pub isOpen : Option (Pending T) → Bool
+  isOpen none = false
+  isOpen (some o) = true
+
+  -- what a completion leaves open: one without data nothing; of a read, what is due beyond its bytes
+  abbrev pub leaves : Option (T .Data) → Option (Pending T) → Option (Pending T)
+  leaves d none = none
+  leaves none (some o) = none
+  leaves (some d) (some (translation q n)) = cond (T .isLast d) none (some (translation q (n + T .size d)))
+  leaves (some d) (some (fetch x b n)) = cond (leb n (T .size d)) none (some (fetch x b (n - T .size d)))
+
+  -- the open request o of tag t, after what a call took and after what it sent
+  abbrev pub onTaken : ℕ → Option (Taken T) → Option (Pending T) → Option (Pending T)
+  onTaken t none o = o
+  onTaken t (some (CPL u d)) o = cond (eqb t u) (leaves d o) o
+  onTaken t (some (INV i a)) o = o
+  onTaken t (some (DRAIN n)) o = o
+
+  abbrev pub onSent : ℕ → Option (Sent T) → Option (Pending T) → Option (Pending T)
+  onSent t none o = o
+  onSent t (some (TR u q)) o = cond (eqb t u) (some (translation q 0)) o
+  onSent t (some (MEM u x b)) o = cond (eqb t u) (some (fetch x b (T .wanted b))) o
+  onSent t (some (IC g v)) o = o
+
+  -- the request of tag t that is open after the calls h
+  abbrev pub openAt : ℕ → List (Seen T) → Option (Pending T)
+  openAt t [] = none
+  openAt t (x ∷ h) = onSent t (x .sent) (onTaken t (x .took) (openAt t h))
+
+  -- what the calls h leave of a request o of tag t that was open before them
+  abbrev pub remains : ℕ → List (Seen T) → Option (Pending T) → Option (Pending T)
+  remains t [] o = o
+  remains t (x ∷ h) o = onTaken t (x .took) (remains t h o)
+
+  -- o, if it is a translated read that overlaps a
+  abbrev pub readIn : T .Area → Option (Pending T) → Option (Pending T)
+  readIn a none = none
+  readIn a (some (translation q n)) = none
+  readIn a (some (fetch x b n)) = cond (x && T .meets a b) (some (fetch x b n)) none
+
+  -- the call sends a request with tag t
+  abbrev pub uses : ℕ → Option (Sent T) → Bool
+  uses t none = false
+  uses t (some (TR u q)) = eqb t u
+  uses t (some (MEM u x b)) = eqb t u
+  uses t (some (IC g v)) = false
+
+  -- the area of the Invalidate Request of Ticket i that the call accepts, if it accepts one
+  abbrev pub accepts : Ticket → Option (Taken T) → Option (T .Area)
+  accepts i none = none
+  accepts i (some (CPL t d)) = none
+  accepts i (some (INV k a)) = cond (same i k) (some a) none
+  accepts i (some (DRAIN n)) = none
+
+  -- the call is an unrefused drain call for Ticket i
+  abbrev pub drains : Ticket → Option (Taken T) → Bool
+  drains i none = false
+  drains i (some (CPL t d)) = false
+  drains i (some (INV k a)) = false
+  drains i (some (DRAIN n)) = n (i .number)
+
+  -- the call sends a completion for Ticket i, to its agent
+  abbrev pub completes : Ticket → Option (Sent T) → Bool
+  completes i none = false
+  completes i (some (TR t q)) = false
+  completes i (some (MEM t x b)) = false
+  completes i (some (IC g v)) = eqb (i .agent) g && v (i .number)
+
+  -- Invalidate Requests of Ticket i accepted, and completions sent for it
+  abbrev pub requests : Ticket → List (Seen T) → ℕ
+  requests i [] = 0
+  requests i (x ∷ h) = given (accepts i (x .took)) (λ a. 1) 0 + requests i h
+
+  abbrev pub completions : Ticket → List (Seen T) → ℕ
+  completions i [] = 0
+  completions i (x ∷ h) = cond (completes i (x .sent)) 1 0 + completions i h
+
+  -- of the overlapping translated reads that were open when Ticket i's latest request came, that of tag t, while it is open still
+  abbrev pub older : Ticket → ℕ → List (Seen T) → Option (Pending T)
+  older i t [] = none
+  older i t (x ∷ h) = given (accepts i (x .took)) (λ a. readIn a (openAt t h)) (onTaken t (x .took) (older i t h))
+
+  -- since Ticket i's latest request no unrefused drain call for it has come with all those reads closed (tags run below n)
+  abbrev pub waits : ℕ → Ticket → List (Seen T) → Bool
+  waits n i [] = false
+  waits n i (x ∷ h) =
+      given (accepts i (x .took)) (λ a. true) (not (drains i (x .took) && noneBelow n (λ t. isOpen (older i t h))) && waits n i h)
+
+  -- completion data d, to the open request o, gives the entry e
+  abbrev pub gave : T .Entry → T .Data → Option (Pending T) → Bool
+  gave e d none = false
+  gave e d (some (translation q n)) = T .gives q n d e
+  gave e d (some (fetch x b n)) = false
+
+  -- the call took a completion for a Translation Request that one of the calls h sent, and its data give the entry e
+  abbrev pub brings : T .Entry → Option (Taken T) → List (Seen T) → Bool
+  brings e none h = false
+  brings e (some (CPL t none)) h = false
+  brings e (some (CPL t (some d))) h = gave e d (openAt t h)
+  brings e (some (INV i a)) h = false
+  brings e (some (DRAIN n)) h = false
+
+-- ---- runs
+
+-- How an observer reads a call: from its arguments, the bytes sent and notes of earlier calls. Of an answer it uses only whether it refuses, and the length
+-- that it gives of the packet sent; of the state nothing.
+pub record Observer (T : Terms) : Type 1 where
+  pub Call : Type 0
+  pub Answer : Type 0
+  pub Notes : Type 0
+  pub refused : Answer → Bool
+  pub length : Answer → ℕ
+  pub isReset : Call → Bool
+  -- what the call brings, if it is not refused; what its packet is; what is noted of it, if it is not refused, and of a new Function
+  pub took : Notes → Call → Option (Taken T)
+  pub sent : Notes → Call → List ℕ → Option (Sent T)
+  pub note : Notes → Call → List ℕ → Notes
+  pub noted : Notes
+  -- how many tags there are
+  pub tags : ℕ
+
+-- A machine: what a call does to its state, what it answers, and the bytes of the lent buffer at its end; and what slot j of its cache holds.
+pub record Machine {T : Terms} (R : Observer T) : Type 1 where
+  pub State : Type 0
+  pub new : State
+  pub state : State → R .Call → State
+  pub answer : State → R .Call → R .Answer
+  pub buffer : State → R .Call → List ℕ
+  pub held : State → ℕ → Option (T .Entry)
+
+-- the machine, and the observer's notes
+pub record Bench {T : Terms} {R : Observer T} (M : Machine R) : Type 0 where
+  pub fn : M .State
+  pub notes : R .Notes
+
+module _ {T : Terms} {R : Observer T} (M : Machine R) where
+  abbrev pub refuses : Bench M → R .Call → Bool
+  refuses s c = R .refused (M .answer (s .fn) c)
+
+  abbrev pub resets : Bench M → R .Call → Bool
+  resets s c = not (refuses s c) && R .isReset c
+
+  -- the packet sent: what was written, as far as the answer says
+  abbrev pub packet : Bench M → R .Call → List ℕ
+  packet s c = take (R .length (M .answer (s .fn) c)) (M .buffer (s .fn) c)
+
+  abbrev pub next : Bench M → R .Call → Bench M
+  next s c = record { fn = M .state (s .fn) c; notes = cond (refuses s c) (s .notes) (R .note (s .notes) c (packet s c)) }
+
+  abbrev pub seen : Bench M → R .Call → Seen T
+  seen s c = record { took = cond (refuses s c) none (R .took (s .notes) c); sent = R .sent (s .notes) c (packet s c) }
+
+  -- the machine after the calls cs, made from s, and what was seen of them
+  abbrev pub after : Bench M → List (R .Call) → Bench M
+  after s [] = s
+  after s (c ∷ cs) = next (after s cs) c
+
+  abbrev pub history : Bench M → List (R .Call) → List (Seen T)
+  history s [] = []
+  history s (c ∷ cs) = seen (after s cs) c ∷ history s cs
+
+  -- no reset is accepted among them
+  abbrev pub Unbroken : Bench M → List (R .Call) → Type 0
+  Unbroken s [] = Unit {0}
+  Unbroken s (c ∷ cs) = (resets (after s cs) c ≡ false) × Unbroken s cs
+
+  -- The entry e of slot j came from a Translation Request that one of the calls cs sent: one of them took a completion for it whose data give e,
+  -- and the slot has held e since.
+  abbrev pub CameFrom : ℕ → T .Entry → Bench M → List (R .Call) → Type 0
+  CameFrom j e s [] = ⊥
+  CameFrom j e s (c ∷ cs) =
+      (brings e (seen (after s cs) c .took) (history s cs) ≡ true) ⊎ ((M .held (after s cs .fn) j ≡ some e) × CameFrom j e s cs)
+
+  -- After the calls `before`, made from s, the call c brought an Invalidate Request of this ticket for the area a, and it was accepted. Since then came the
+  -- calls `since`, with no reset among them all.
+  pub record Arrived (s : Bench M) (before : List (R .Call)) (c : R .Call) (since : List (R .Call)) (i : Ticket) (a : T .Area) : Type 0 where
+    pub unbroken : Unbroken s (c ∷ before)
+    pub accepted : accepts i (seen (after s before) c .took) ≡ some a
+    pub goesOn : Unbroken (after s (c ∷ before)) since
+
+  -- and a completion for it was among what they sent
+  pub record Completed (s : Bench M) (before : List (R .Call)) (c : R .Call) (since : List (R .Call)) (i : Ticket) (a : T .Area) : Type 0 where
+    pub arrived : Arrived s before c since i a
+    pub sent : 0 < completions i (history (after s (c ∷ before)) since)
+
+  -- each entry that overlaps the area came from a Translation Request sent since the request
+  abbrev pub OnlyNewEntries : Bench M → List (R .Call) → R .Call → List (R .Call) → T .Area → Type 0
+  OnlyNewEntries s before c since a = (j : ℕ) (e : T .Entry) → M .held (after (after s (c ∷ before)) since .fn) j ≡ some e → T .overlaps a e ≡ true
+      → CameFrom j e (after s (c ∷ before)) since
+
+  -- no translated read that overlaps the area and was sent before the request is open
+  abbrev pub NoOldRead : Bench M → List (R .Call) → R .Call → List (R .Call) → T .Area → Type 0
+  NoOldRead s before c since a = (t : ℕ) → remains t (history (after s (c ∷ before)) since) (readIn a (openAt t (history s before))) ≡ none
+
+  -- The third demand, of all runs that begin at s.
+  pub record Demand3 (s : Bench M) : Type 0 where
+    -- from the moment a completion is sent: only new entries, and no old read
+    pub entries : (before : List (R .Call)) (c : R .Call) (since : List (R .Call)) (i : Ticket) (a : T .Area) → Completed s before c since i a → OnlyNewEntries s before c since a
+    pub reads : (before : List (R .Call)) (c : R .Call) (since : List (R .Call)) (i : Ticket) (a : T .Area) → Completed s before c since i a → NoOldRead s before c since a
+    -- requests accepted are completions sent, and one more if the ticket waits
+    pub counts : (calls : List (R .Call)) → Unbroken s calls → (i : Ticket)
+        → requests i (history s calls) ≡ completions i (history s calls) + cond (waits (R .tags) i (history s calls)) 1 0
+    -- beyond the letter: the entries are new ones already from the moment the request arrives
+    pub sooner : (before : List (R .Call)) (c : R .Call) (since : List (R .Call)) (i : Ticket) (a : T .Area) → Arrived s before c since i a → OnlyNewEntries s before c since a
+    -- and a request goes out with one of the tags, and not with one that is open: so a completion is for one request
+    pub tags : (calls : List (R .Call)) (c : R .Call) → Unbroken s (c ∷ calls) → (t : ℕ) → uses t (seen (after s calls) c .sent) ≡ true
+        → (t < R .tags) × (openAt t (history s calls) ≡ none)
+
+  -- From any state and any notes, once a reset is accepted; and from a new Function.
+  pub record Order : Type 0 where
+    pub reset : (s : Bench M) (c : R .Call) → resets s c ≡ true → Demand3 (next s c)
+    pub new : Demand3 (record { fn = M .new; notes = R .noted })

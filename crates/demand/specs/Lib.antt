@@ -1,0 +1,3 @@
+pub mod Demand
+pub mod Laws
+pub mod Theorem

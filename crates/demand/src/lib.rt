@@ -1,0 +1,1 @@
+// Demand 3, for any machine whose calls can be seen: definitions and theorems only, in specs/.

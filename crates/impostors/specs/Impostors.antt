@@ -1,0 +1,234 @@
+-- Wrong cards, each refused by demand 3 alone, on a run that the checker computes. Each is the card but for what its name says.
+use mathlib.Core.Path.{_≡_, refl, sym}
+use mathlib.Core.Bool.{Bool, true, false, cond, _||_}
+use mathlib.Core.List.{List, [], _∷_, map}
+use mathlib.Core.Option.{Option, none, some}
+use Prim.Native.Nat.{ℕ}
+use native.Mathlib.Omega.{arith}
+use lib.Dec.{lit<}
+use lib.ListN.{set}
+use Rattle.packet.specs.declared.Tag.{Tag}
+use Rattle.packet.specs.declared.Access.the-variants.{Read as Fetches}
+use Rattle.packet.specs.Numbers.{gives}
+use Rattle.packet.specs.Frames.{frameOf}
+use Rattle.packet.specs.Forms.{choose}
+use Rattle.packet.specs.Kinds.{bodyIn, shaped, allowedBody, withinBody, loadOf, formOf, framed}
+use Rattle.packet.specs.Reading.{readForm, reading, payloadIn, wordAt}
+use Rattle.packet.specs.Writing.{bytesOf, writing}
+use Rattle.span.specs.Range.{regionOf, roundedOf, reachOf, runOf, movedTo}
+use Rattle.span.specs.Size.{lowestZero, sizeOf, translationOf}
+use Rattle.lemmas.specs.First.{firstAt}
+use Rattle.lemmas.specs.Run.{runTo}
+use Rattle.lemmas.specs.All.{allTo}
+use Rattle.lemmas.specs.Gather.{gather}
+use Rattle.tlp.specs.Translations.{translationAt}
+use Rattle.atc.specs.Cache.{found, filled as put, unitDropped, spanDropped}
+use Rattle.tags.specs.Itags.{isIn, joined, without}
+use Rattle.tags.specs.Tags.{freeTag, heldAt, placed, rangeOf, bytesAsked, touches, snooped, allStaled, noted}
+use Rattle.replies.specs.Fits.{onBoundary, firstPart as startsPart, secondPart, partOf, sizeOfAll, beginsIn, cameOf, fitsAt, allFit, sizeFits, judged}
+use Rattle.replies.specs.Fills.{unitFilled, covered, unitStep, applied}
+use Rattle.state.specs.Answers.{sending}
+use Rattle.state.specs.Switches.{resetting, enabling, disabling}
+use Rattle.asks.specs.Ask.{isBelowTop, isAskable, asking}
+use Rattle.accesses.specs.Access.{lookingUp, accessing}
+use Rattle.drains.specs.Drain.{sendingVector}
+use Rattle.completions.specs.Reads.{fetched, unfetched}
+use Rattle.completions.specs.Translations.{settled, translated, untranslated}
+use Rattle.completions.specs.Completions.{completed}
+use Rattle.snoops.specs.Invalidate.{snoopRange, invalidated}
+use Rattle.receives.specs.Receive.{taken, received}
+use Rattle.card.specs.Call.{calling}
+use Rattle.atc.specs.declared.Entry.{Entry}
+use Rattle.atc.specs.Cache.{slotAt, nothing}
+use Rattle.tags.specs.declared.Open.{Open}
+use Rattle.tags.specs.declared.Open.the-variants.{Free, Ask as Asking, Read as Reading}
+use Rattle.tags.specs.declared.Place.{Place}
+use Rattle.tags.specs.Tags.{holding}
+use Rattle.state.specs.declared.Function.{Function}
+use Rattle.state.specs.declared.Agent.the-variants.{Known}
+use Rattle.state.specs.State.{fresh, rcbOf, withTables, withPlace}
+use Rattle.state.specs.Answers.{Result, done, carries, payloadLast}
+use Rattle.accesses.specs.Access.{memoryOf}
+use Rattle.drains.specs.Drain.{completionFrom, readyOf}
+use Rattle.card.specs.declared.Command.the-variants.{Ask}
+use Rattle.card.specs.Call.{step}
+use Rattle.lemmas.specs.Bools.{no-tf, no-some}
+use Rattle.demand.specs.Demand.{Taken, CPL, INV, DRAIN, Machine, Completed, Order, after}
+use Rattle.demand.specs.Theorem.{broughtIn, brought}
+use Rattle.keeps.specs.Demands.{Call, Cached, terms, callTaken, observer, heldIn}
+use Rattle.impostors.specs.Runs.{simply, enable, drain, ask, read, granted, grantedLate, firstPart, bothParts, request, three, page}
+
+-- the card with another step
+abbrev cardBy : (Function → Call → Result) → Machine observer
+cardBy g =
+    record {
+      State = Function;
+      new = fresh 0 0 (rcbOf 64);
+      state = λ f c. g f c .state;
+      answer = λ f c. let r = g f c in record { says = r .says; sent = r .sent };
+      buffer = λ f c. g f c .buffer;
+      held = heldIn;
+    }
+
+abbrev honest : Function → Call → Result
+honest f c = step f (c .command) (c .bytes) (c .out)
+
+-- by what a call brings: a completion, an Invalidate Request, a drain, none of these
+abbrev by : {X : Type 0} → Option (Taken terms) → X → X → X → X → X
+by none x y z o = o
+by (some (CPL t d)) x y z o = x
+by (some (INV i a)) x y z o = y
+by (some (DRAIN n)) x y z o = z
+
+abbrev brings : Call → Option (Taken terms)
+brings c = callTaken 0 (c .command) (c .bytes)
+
+abbrev withState : Result → Function → Result
+withState r f = record { state = f; says = r .says; sent = r .sent; buffer = r .buffer }
+
+abbrev withBuffer : Result → List ℕ → Result
+withBuffer r b = record { state = r .state; says = r .says; sent = r .sent; buffer = b }
+
+-- ---- what they do
+
+-- it keeps the entries that an Invalidate Request should drop
+abbrev keeper : Function → Call → Result
+keeper f c = let r = honest f c in by (brings c) r (withState r (withTables (r .state) (f .cache) (r .state .places))) r r
+
+-- it leaves Translation Requests live
+abbrev lively : Function → Call → Result
+lively f c = let r = honest f c in by (brings c) r (withState r (withTables (r .state) (r .state .cache) (f .places))) r r
+
+abbrev unnoted : Open → Open
+unnoted Free = Free
+unnoted (Asking q) = Asking q
+unnoted (Reading x) = Reading (record { address = x .address; bytes = x .bytes; due = x .due; translated = x .translated; itags = 0 })
+
+-- it waits for no read
+abbrev hasty : Function → Call → Result
+hasty f c = let r = honest f c in by (brings c) r (withState r (withTables (r .state) (r .state .cache) (map (λ (p : Place). holding (unnoted (p .held))) (r .state .places)))) r r
+
+-- it calls a read ended after its first part
+abbrev endedIn : Function → Result → Tag → Open → Result
+endedIn f r t Free = r
+endedIn f r t (Asking q) = r
+endedIn f r t (Reading x) = record { state = withPlace f t Free; says = gives payloadLast; sent = 0; buffer = r .buffer }
+
+abbrev earlyOn : Function → Result → Option (Taken terms) → Result
+earlyOn f r none = r
+earlyOn f r (some (CPL t none)) = r
+earlyOn f r (some (CPL t (some d))) = endedIn f r (record { 0 = t }) (heldAt (f .places) (record { 0 = t }))
+earlyOn f r (some (INV i a)) = r
+earlyOn f r (some (DRAIN n)) = r
+
+abbrev early : Function → Call → Result
+early f c = earlyOn f (honest f c) (brings c)
+
+-- it accepts an Invalidate Request, does nothing, and sends a completion for no ITag
+abbrev hider : Function → Call → Result
+hider f c = let r = honest f c in by (brings c) r (record { state = f; says = gives (carries 0); sent = 16; buffer = bytesOf (completionFrom 0 (Known 0x0200) 0) [] }) r r
+
+-- a drain has nothing to send for ever
+abbrev silent : Function → Call → Result
+silent f c = let r = honest f c in by (brings c) r r (record { state = f; says = gives (carries 0); sent = 0; buffer = c .out }) r
+
+-- it reports a packet's length and writes nothing
+abbrev unwritten : Function → Call → Result
+unwritten f c = let r = honest f c in by (brings c) r r (withBuffer r (c .out)) r
+
+-- its completions go to someone else
+abbrev astray : Function → Call → Result
+astray f c = let r = honest f c in by (brings c) r r (withBuffer r (bytesOf (completionFrom (f .id) (Known 8) (readyOf f)) [])) r
+
+-- every request goes out with tag 0
+abbrev again : Function → Call → Result
+again f c = let r = honest f c in by (brings c) r r r (withBuffer r (set (r .buffer) 6 0))
+
+-- it reads on its own account when it is enabled
+abbrev curious : Function → Call → Result
+curious f c =
+    let r = honest f c in
+    by (brings c) r r r (record { state = r .state; says = gives done; sent = 12; buffer = bytesOf (memoryOf 0 (Fetches (record { 0 = 0 })) 1 (record { address = 0x7000; translated = true })) [] })
+
+-- ---- two that remember more than a Function does
+
+pub record Odd : Type 0 where
+  pub inner : Function
+  pub drawer : Entry
+  pub spent : Bool
+
+abbrev oddBy : (Odd → Call → Odd) → (Odd → Call → List ℕ) → Machine observer
+oddBy moves writes =
+    record {
+      State = Odd;
+      new = record { inner = fresh 0 0 (rcbOf 64); drawer = nothing; spent = false };
+      state = moves;
+      answer = λ x c. let r = honest (x .inner) c in record { says = r .says; sent = r .sent };
+      buffer = writes;
+      held = λ x j. heldIn (x .inner) j;
+    }
+
+-- it keeps an old entry in a drawer, and puts it into slot 1 when a completion comes
+abbrev putBack : Function → Entry → Function
+putBack f e = withTables f (record { hand = f .cache .hand; slots = set (f .cache .slots) 1 e }) (f .places)
+
+abbrev drawerMoves : Odd → Call → Odd
+drawerMoves x c =
+    let g = honest (x .inner) c .state in
+    let same : Odd = record { inner = g; drawer = x .drawer; spent = false } in
+    by (brings c) (record { inner = putBack g (x .drawer); drawer = x .drawer; spent = false }) (record { inner = g; drawer = slotAt (x .inner .cache .slots) 0; spent = false }) same same
+
+abbrev drawerCard : Machine observer
+drawerCard = oddBy drawerMoves (λ x c. honest (x .inner) c .buffer)
+
+-- it drains properly once, and then only says so
+abbrev idleMoves : Odd → Call → Odd
+idleMoves x c = record { inner = honest (x .inner) c .state; drawer = nothing; spent = x .spent || by (brings c) false false true false }
+
+abbrev idleCard : Machine observer
+idleCard = oddBy idleMoves (λ x c. cond (x .spent) (c .out) (honest (x .inner) c .buffer))
+
+-- ---- why they are refused
+
+-- newest first: a read of the page is open with tag 0, a Translation Request for it with tag 1
+abbrev warm : List Call
+warm = ask ∷ read ∷ granted ∷ ask ∷ enable ∷ []
+
+-- from a new Function, an overlapping entry was brought by one of the calls since the request
+shown : (M : Machine observer) → Order M → (before : List Call) (c : Call) (since : List Call) → Completed M (record { fn = M .new; notes = 0 }) before c since three page → (j : ℕ) (e : Cached)
+    → M .held (after M (after M (record { fn = M .new; notes = 0 }) (c ∷ before)) since .fn) j ≡ some e → terms .overlaps page e ≡ true
+    → broughtIn M e (after M (record { fn = M .new; notes = 0 }) (c ∷ before)) since ≡ true
+shown M d before c since z j e p o = brought M j e _ since (d .new .entries before c since three page z j e p o)
+
+-- none of them keeps demand 3
+pub record Refused : Type 1 where
+  pub keeper : Order (cardBy keeper) → ⊥
+  pub lively : Order (cardBy lively) → ⊥
+  pub hasty : Order (cardBy hasty) → ⊥
+  pub early : Order (cardBy early) → ⊥
+  pub drawer : Order drawerCard → ⊥
+  pub hider : Order (cardBy hider) → ⊥
+  pub silent : Order (cardBy silent) → ⊥
+  pub unwritten : Order (cardBy unwritten) → ⊥
+  pub astray : Order (cardBy astray) → ⊥
+  pub idle : Order idleCard → ⊥
+  pub again : Order (cardBy again) → ⊥
+  pub curious : Order (cardBy curious) → ⊥
+
+pub refused : Refused
+unfolding frameOf choose bodyIn shaped allowedBody withinBody loadOf formOf framed readForm reading payloadIn wordAt bytesOf writing regionOf roundedOf reachOf runOf movedTo lowestZero sizeOf translationOf firstAt runTo allTo gather translationAt found put unitDropped spanDropped isIn joined without freeTag heldAt placed rangeOf bytesAsked touches snooped allStaled noted onBoundary startsPart secondPart partOf sizeOfAll beginsIn cameOf fitsAt allFit sizeFits judged unitFilled covered unitStep applied sending resetting enabling disabling isBelowTop isAskable asking lookingUp accessing sendingVector fetched unfetched settled translated untranslated completed snoopRange invalidated taken received calling
+refused =
+    record {
+      keeper = λ d. no-tf (sym (shown (cardBy keeper) d warm request (drain ∷ bothParts ∷ []) (record { arrived = record { unbroken = (refl, (refl, (refl, (refl, (refl, (refl, tt)))))); accepted = refl; goesOn = (refl, (refl, tt)) }; sent = lit< tt }) 0 _ refl refl));
+      lively = λ d. no-tf (sym (shown (cardBy lively) d warm request (grantedLate ∷ drain ∷ bothParts ∷ []) (record { arrived = record { unbroken = (refl, (refl, (refl, (refl, (refl, (refl, tt)))))); accepted = refl; goesOn = (refl, (refl, (refl, tt))) }; sent = lit< tt }) 0 _ refl refl));
+      hasty = λ d. no-some (sym (d .new .reads warm request (drain ∷ []) three page (record { arrived = record { unbroken = (refl, (refl, (refl, (refl, (refl, (refl, tt)))))); accepted = refl; goesOn = (refl, tt) }; sent = lit< tt }) 0));
+      early = λ d. no-some (sym (d .new .reads warm request (drain ∷ firstPart ∷ []) three page (record { arrived = record { unbroken = (refl, (refl, (refl, (refl, (refl, (refl, tt)))))); accepted = refl; goesOn = (refl, (refl, tt)) }; sent = lit< tt }) 0));
+      drawer = λ d. no-tf (sym (shown drawerCard d (granted ∷ ask ∷ enable ∷ []) request (granted ∷ simply (Ask (record { address = 0x9000; units = 1; nowrite = false })) refl ∷ drain ∷ []) (record { arrived = record { unbroken = (refl, (refl, (refl, (refl, tt)))); accepted = refl; goesOn = (refl, (refl, (refl, tt))) }; sent = lit< tt }) 1 _ refl refl));
+      hider = λ d. let z : _≡_ {A = ℕ} 1 0 = d .new .counts (drain ∷ request ∷ []) (refl, (refl, tt)) three in omega arith;
+      silent = λ d. let z : _≡_ {A = ℕ} 1 0 = d .new .counts (drain ∷ request ∷ []) (refl, (refl, tt)) three in omega arith;
+      unwritten = λ d. let z : _≡_ {A = ℕ} 1 0 = d .new .counts (drain ∷ request ∷ []) (refl, (refl, tt)) three in omega arith;
+      astray = λ d. let z : _≡_ {A = ℕ} 1 0 = d .new .counts (drain ∷ request ∷ []) (refl, (refl, tt)) three in omega arith;
+      idle = λ d. let z : _≡_ {A = ℕ} 2 1 = d .new .counts (drain ∷ request ∷ drain ∷ request ∷ []) (refl, (refl, (refl, (refl, tt)))) three in omega arith;
+      again = λ d. no-some (sym (d .new .tags (ask ∷ enable ∷ []) ask (refl, (refl, (refl, tt))) 0 refl .1));
+      curious = λ d. no-some (sym (d .new .reads (enable ∷ []) request (drain ∷ []) three page (record { arrived = record { unbroken = (refl, (refl, tt)); accepted = refl; goesOn = (refl, tt) }; sent = lit< tt }) 0));
+    }

@@ -1,0 +1,304 @@
+-- THE THREE DEMANDS, as statements about the card. Open this file first.
+--
+-- `step f c bytes out` is what a call c does to the state f, with the bytes that it is given and the buffer `out` that it is lent. It is a definition (card/specs/Call.antt), and the
+-- contract of `card::call` says that the code does just that, for every state, call, packet and buffer.
+--
+--   Demand 1 · `Demand1`, proved by `demand-1` in Proved.antt
+--   Demand 2 · `Demand2`, proved by `demand-2`
+--   Demand 3 · `Demand3`, proved by `demand-3`
+use mathlib.Core.Path.{_≡_}
+use mathlib.Core.Logic.{_↔_}
+use mathlib.Core.Bool.{Bool, true, false, cond, _&&_, Bool·beq}
+use mathlib.Core.List.{List}
+use mathlib.Core.Option.{Option, none, some}
+use Prim.Native.Nat.{ℕ, _-_, _*_, _/_, _^_, _≤_}
+use lib.Dec.{eqb, leb, ltb}
+use lib.ListN.{length}
+use Rattle.span.specs.declared.Range.{Range}
+use Rattle.span.specs.declared.Translation.{Translation}
+use Rattle.span.specs.Range.{regionOf, roundedOf, reachOf, runOf, unitExponent, meetsOf, isWithin}
+use Rattle.span.specs.Size.{sizeOf}
+use Rattle.packet.specs.declared.ITag.{ITag}
+use Rattle.packet.specs.declared.Access.{Access}
+use Rattle.packet.specs.declared.Access.the-variants.{Read, Write}
+use Rattle.packet.specs.declared.Outcome.{Outcome}
+use Rattle.packet.specs.declared.Outcome.the-variants.{Data, Status}
+use Rattle.packet.specs.declared.Body.{Body}
+use Rattle.packet.specs.declared.Body.the-variants.{Tr, Mem, Cpl, Inv, Ic, Prq, Prs}
+use Rattle.packet.specs.declared.InvalidateRequest.{InvalidateRequest}
+use Rattle.packet.specs.declared.Packet.{Packet}
+use Rattle.packet.specs.Numbers.{Said, gives, number}
+use Rattle.packet.specs.Forms.{dwordsOf}
+use Rattle.packet.specs.Reading.{reading, payloadIn}
+use Rattle.packet.specs.Writing.{writing, bytesOf}
+use Rattle.packet.specs.Normal.{normal}
+use Rattle.tlp.specs.Frames.{Bytes}
+use Rattle.tlp.specs.Fields.{Typed}
+use Rattle.tlp.specs.Words.{areBytes}
+use Rattle.tlp.specs.Translations.{translationAt}
+use Rattle.atc.specs.declared.Entry.{Entry}
+use Rattle.atc.specs.Cache.{slotAt, touches}
+use Rattle.tags.specs.Itags.{place, isIn}
+use Rattle.replies.specs.declared.Rcb.{Rcb}
+use Rattle.replies.specs.Fits.{exponentIn}
+use Rattle.replies.specs.Fills.{opens, entryOf, regionOver}
+use Rattle.state.specs.declared.Function.{Function}
+use Rattle.state.specs.State.{fresh, rcbOf}
+use Rattle.state.specs.Answers.{Word}
+use Rattle.snoops.specs.Invalidate.{exponentOf}
+use Rattle.card.specs.declared.Command.{Command}
+use Rattle.card.specs.declared.Command.the-variants.{Reset, Enable, Disable, Ask, Access as Accesses, Receive, Drain, PagesOn, PagesOff, PageRequest}
+use Rattle.card.specs.Call.{step}
+use Rattle.card.specs.Kept.{Sound}
+use Rattle.demand.specs.Demand.{given, Terms, Taken, CPL, INV, DRAIN, Sent, TR, MEM, IC, Observer, Machine, Bench, waits, next, resets, after, history, Unbroken, Order}
+
+-- ---- DEMAND 1: a refusal is one of 17 numbers and leaves state and buffer as they were.
+-- That nothing traps, overruns or hangs is not said here: it is what a proved function is. No public function has a `requires`, so it holds for all arguments.
+
+abbrev pub Demand1 : Type 0
+Demand1 = (f : Function) (c : Command) (bytes out : List ℕ) (n : ℕ) → step f c bytes out .says ≡ number n
+    → ((step f c bytes out .state ≡ f) × (step f c bytes out .sent ≡ 0) × (step f c bytes out .buffer ≡ out)) × ((1 ≤ n) × (n ≤ 17))
+
+-- ---- DEMAND 2: packets and states are those of the papers, and no other.
+-- That is what the definitions say which the contracts cite: packet/specs (`reading`, `writing`) and card/specs/Call.antt (`step`, and what it leads to). Beside them stands what
+-- shows that they fit together: what is written reads as the same packet; what is read can be written, and gives the same bytes but for those that no field names; and every
+-- state that calls reach has 32 slots with at most one entry a unit, 32 tags, 32 groups and no more credits in use than were allowed.
+
+pub record Demand2 : Type 0 where
+  pub written : (p : Packet) (payload : List ℕ) (room n : ℕ) → Typed p → writing p (length payload) room ≡ gives n → (reading (bytesOf p payload) ≡ gives p) × (payloadIn (bytesOf p payload) ≡ payload)
+  pub read : (b : List ℕ) (p : Packet) → Bytes b → reading b ≡ gives p → (writing p (length (payloadIn b)) (length b) ≡ gives (length b)) × (bytesOf p (payloadIn b) ≡ normal b)
+  pub starts : (id stu : ℕ) (rcb : Rcb) → Sound (fresh id stu rcb)
+  pub keeps : (f : Function) (c : Command) (bytes out : List ℕ) → Sound f → Sound (step f c bytes out .state)
+
+-- ---- DEMAND 3: once a completion is sent nothing old is cached in its range and no old read is open, and the completions add up.
+-- The demand itself, for any machine, is demand/specs/Demand.antt. Here is what it is stated of: what is seen of a call on the card, what its cache holds, and what overlaps.
+
+-- ---- what packets speak of
+
+-- the units that a Translation Request asks for
+pub record Asked : Type 0 where
+  pub stu : ℕ
+  pub range : Range
+
+-- the bytes that a read asks for, from the address that the call was given on, whatever address was sent; a read that no call asked for could be of any
+pub record Wanted : Type 0 where
+  pub address : Option ℕ
+  pub bytes : ℕ
+
+-- a completion with data: its Byte Count and its payload
+pub record Reply : Type 0 where
+  pub count : ℕ
+  pub load : List ℕ
+
+-- an entry, with the unit in force
+pub record Cached : Type 0 where
+  pub stu : ℕ
+  pub entry : Entry
+
+abbrev pub sameEntry : Entry → Entry → Bool
+sameEntry x y =
+    Bool·beq (x .used) (y .used) && (Bool·beq (x .r) (y .r) && (Bool·beq (x .w) (y .w) && (Bool·beq (x .n) (y .n) && (Bool·beq (x .u) (y .u)
+    && (eqb (x .unit) (y .unit) && eqb (x .to) (y .to))))))
+
+-- this translation, of regions of 2 ^ e bytes, grants the entry
+abbrev pub isGranted : Translation → ℕ → Entry → Bool
+isGranted t e x = opens t && sameEntry x (entryOf t e (x .unit))
+
+-- One of the payload's translations grants the entry: the one over the entry's unit, counted from the region of the first byte asked for, after those that
+-- came before. All have the size of the payload's first.
+abbrev pub isGiven : ℕ → ℕ → List ℕ → Entry → Bool
+isGiven first before load x =
+    let e = exponentIn (translationAt load 0 .size) in
+    let k = regionOver first e (x .unit) in
+    leb before k && (ltb (k - before) (length load / 8) && isGranted (translationAt load (k - before)) e x)
+
+-- the unit of the entry is one of those asked for, and the reply grants it
+abbrev pub isReplied : Asked → ℕ → Reply → Cached → Bool
+isReplied q before d x = eqb (x .stu) (q .stu) && (isWithin (regionOf (x .entry .unit) (unitExponent (q .stu))) (q .range) && isGiven (q .range .first) (before / 8) (d .load) (x .entry))
+
+abbrev pub terms : Terms
+terms =
+    record {
+      Area = Range;
+      Bytes = Wanted;
+      Ask = Asked;
+      Data = Reply;
+      Entry = Cached;
+      meets = λ a b. given (b .address) (λ x. meetsOf (reachOf x (b .bytes - 1)) a) true;
+      overlaps = λ a x. touches (x .stu) a (x .entry);
+      wanted = λ b. b .bytes;
+      size = λ d. length (d .load);
+      isLast = λ d. eqb (d .count) (length (d .load));
+      gives = isReplied;
+    }
+
+-- ---- what is seen of a call
+
+-- arguments are of their types, as the compiler has it: 64 bits of an address, 16 of an ID
+abbrev pub isTyped : Command → Bool
+isTyped (Reset a) = ltb (a .id) (2 ^ 16)
+isTyped Enable = true
+isTyped Disable = true
+isTyped (Ask a) = ltb (a .address) (2 ^ 64)
+isTyped (Accesses a) = ltb (a .address) (2 ^ 64)
+isTyped Receive = true
+isTyped Drain = true
+isTyped (PagesOn n) = true
+isTyped PagesOff = true
+isTyped (PageRequest q) = ltb (q .page) (2 ^ 64)
+
+-- a call, with the packet that is received or the payload that is handed in, and the buffer that is lent
+pub record Call : Type 0 where
+  pub command : Command
+  pub bytes : List ℕ
+  pub out : List ℕ
+  pub typed : isTyped command ≡ true
+  pub octets : areBytes bytes ≡ true
+
+-- what it answers, and the length that it gives of the packet sent
+pub record Answered : Type 0 where
+  pub says : Said Word
+  pub sent : ℕ
+
+abbrev pub isRefused : Said Word → Bool
+isRefused (gives w) = false
+isRefused (number n) = true
+
+abbrev pub isReset : Command → Bool
+isReset (Reset a) = true
+isReset Enable = false
+isReset Disable = false
+isReset (Ask a) = false
+isReset (Accesses a) = false
+isReset Receive = false
+isReset Drain = false
+isReset (PagesOn n) = false
+isReset PagesOff = false
+isReset (PageRequest q) = false
+
+-- the STU in force after a call that is not refused
+abbrev pub stuAfter : ℕ → Command → ℕ
+stuAfter stu (Reset a) = a .stu
+stuAfter stu Enable = stu
+stuAfter stu Disable = stu
+stuAfter stu (Ask a) = stu
+stuAfter stu (Accesses a) = stu
+stuAfter stu Receive = stu
+stuAfter stu Drain = stu
+stuAfter stu (PagesOn n) = stu
+stuAfter stu PagesOff = stu
+stuAfter stu (PageRequest q) = stu
+
+-- the address that an access is given
+abbrev pub addressIn : Command → Option ℕ
+addressIn (Reset a) = none
+addressIn Enable = none
+addressIn Disable = none
+addressIn (Ask a) = none
+addressIn (Accesses a) = some (a .address)
+addressIn Receive = none
+addressIn Drain = none
+addressIn (PagesOn n) = none
+addressIn PagesOff = none
+addressIn (PageRequest q) = none
+
+abbrev pub dataIn : Outcome → ℕ → List ℕ → Option Reply
+dataIn (Data words) count load = some (record { count = count; load = load })
+dataIn (Status status) count load = none
+
+-- a completion or an Invalidate Request that is received, from whom, with the range rounded up to the unit
+abbrev pub bodyTaken : ℕ → List ℕ → ℕ → Body → Option (Taken terms)
+bodyTaken stu load from (Tr t) = none
+bodyTaken stu load from (Mem m) = none
+bodyTaken stu load from (Cpl c) = some (CPL (c .tag .0) (dataIn (c .outcome) (c .count) load))
+bodyTaken stu load from (Inv i) =
+    some (INV (record { agent = from; number = place (i .itag) }) (roundedOf (i .address) (exponentOf (sizeOf (i .address) (i .sized))) (unitExponent stu)))
+bodyTaken stu load from (Ic i) = none
+bodyTaken stu load from (Prq q) = none
+bodyTaken stu load from (Prs s) = none
+
+abbrev pub packetTaken : ℕ → List ℕ → Said Packet → Option (Taken terms)
+packetTaken stu load (gives p) = bodyTaken stu load (p .head .sender) (p .body)
+packetTaken stu load (number n) = none
+
+abbrev pub callTaken : ℕ → Command → List ℕ → Option (Taken terms)
+callTaken stu (Reset a) bytes = none
+callTaken stu Enable bytes = none
+callTaken stu Disable bytes = none
+callTaken stu (Ask a) bytes = none
+callTaken stu (Accesses a) bytes = none
+callTaken stu Receive bytes = packetTaken stu (payloadIn bytes) (reading bytes)
+callTaken stu Drain bytes = some (DRAIN (λ i. true))
+callTaken stu (PagesOn n) bytes = none
+callTaken stu PagesOff bytes = none
+callTaken stu (PageRequest q) bytes = none
+
+-- the ITag of a number; a vector has 32
+abbrev pub itag : ℕ → ITag
+itag k = record { 0 = k }
+
+abbrev pub isListed : ℕ → ℕ → Bool
+isListed v k = ltb k 32 && isIn v (itag k)
+
+-- a Translation Request, a read or an Invalidate Completion that is sent
+abbrev pub accessSent : Option ℕ → ℕ → Bool → Access → Option (Sent terms)
+accessSent address words translated (Read t) = some (MEM (t .0) translated (record { address = address; bytes = 4 * dwordsOf words }))
+accessSent address words translated Write = none
+
+abbrev pub bodySent : ℕ → Command → Body → Option (Sent terms)
+bodySent stu c (Tr t) = some (TR (t .tag .0) (record { stu = stu; range = runOf (t .address) (dwordsOf (t .words) / 2 - 1) stu }))
+bodySent stu c (Mem m) = accessSent (addressIn c) (m .words) (m .translated) (m .access)
+bodySent stu c (Cpl x) = none
+bodySent stu c (Inv i) = none
+bodySent stu c (Ic i) = some (IC (i .device) (isListed (i .vector)))
+bodySent stu c (Prq q) = none
+bodySent stu c (Prs s) = none
+
+abbrev pub packetSent : ℕ → Command → Said Packet → Option (Sent terms)
+packetSent stu c (gives p) = bodySent stu c (p .body)
+packetSent stu c (number n) = none
+
+-- Of a call is seen its command, the bytes that it was given and those that it sent, whether it was refused, and the STU of the last reset.
+abbrev pub observer : Observer terms
+observer =
+    record {
+      Call = Call;
+      Answer = Answered;
+      Notes = ℕ;
+      refused = λ a. isRefused (a .says);
+      length = λ a. a .sent;
+      isReset = λ c. isReset (c .command);
+      took = λ stu c. callTaken stu (c .command) (c .bytes);
+      sent = λ stu c p. packetSent stu (c .command) (reading p);
+      note = λ stu c p. stuAfter stu (c .command);
+      noted = 0;
+      tags = 32;
+    }
+
+-- what slot j of the cache holds
+abbrev pub heldIn : Function → ℕ → Option Cached
+heldIn f j = cond (slotAt (f .cache .slots) j .used) (some (record { stu = f .stu; entry = slotAt (f .cache .slots) j })) none
+
+-- the card: what its calls do is what `step` says, which their contracts cite
+abbrev pub card : Machine observer
+card =
+    record {
+      State = Function;
+      new = fresh 0 0 (rcbOf 64);
+      state = λ f c. step f (c .command) (c .bytes) (c .out) .state;
+      answer = λ f c. let r = step f (c .command) (c .bytes) (c .out) in record { says = r .says; sent = r .sent };
+      buffer = λ f c. step f (c .command) (c .bytes) (c .out) .buffer;
+      held = heldIn;
+    }
+
+-- After any calls that hold no accepted reset: an Invalidate Request for the Function, whatever its range, is refused with 9 exactly where its ITag waits, read from the calls.
+abbrev pub NineWhileWaiting : Bench card → Type 0
+NineWhileWaiting begin = (calls : List Call) → Unbroken card begin calls → (bytes out : List ℕ) (p : Packet) (i : InvalidateRequest)
+    → reading bytes ≡ gives p → p .body ≡ Inv i → i .device ≡ after card begin calls .fn .id
+    → (step (after card begin calls .fn) Receive bytes out .says ≡ number 9) ↔ (waits 32 (record { agent = p .head .sender; number = place (i .itag) }) (history card begin calls) ≡ true)
+
+-- From every state on which a reset is accepted, and from a new Function: `Order` is demand/specs/Demand.antt's.
+pub record Demand3 : Type 0 where
+  pub order : Order card
+  pub nine : (s : Bench card) (c : Call) → resets card s c ≡ true → NineWhileWaiting (next card s c)
+  pub nineNew : NineWhileWaiting (record { fn = fresh 0 0 (rcbOf 64); notes = 0 })

@@ -1,0 +1,24 @@
+-- The three demands are met. Nothing is assumed.
+use Rattle.tlp.specs.Trips.{written-reads, written-payload, read-written, read-writes}
+use native.Mathlib.Omega.{arith}
+use lib.ListN.{length}
+use Rattle.card.specs.Refused.{refused-keeps, numbers}
+use Rattle.card.specs.Kept.{fresh-sound, sound-kept}
+use Rattle.keeps.specs.Demands.{Demand1, Demand2, Demand3}
+use Rattle.keeps.specs.Keeps.{keeps-order}
+use Rattle.keeps.specs.Nine.{nine-while-waiting, nine-while-waiting-new}
+
+pub demand-1 : Demand1
+demand-1 f c bytes out n e = (refused-keeps f c bytes out n e, numbers f c bytes out n e)
+
+pub demand-2 : Demand2
+demand-2 =
+    record {
+      written = λ p payload room n ty e. (written-reads p payload room n ty e, written-payload p payload room n ty e);
+      read = λ b p h e. (read-writes b p (length b) h e (omega arith), read-written b p h e);
+      starts = fresh-sound;
+      keeps = sound-kept;
+    }
+
+pub demand-3 : Demand3
+demand-3 = record { order = keeps-order; nine = nine-while-waiting; nineNew = nine-while-waiting-new }

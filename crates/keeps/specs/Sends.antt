@@ -1,0 +1,278 @@
+-- The calls that change no tag and no entry, and those that send: each keeps what holds, and does what is seen of it.
+use mathlib.Core.Path.{_≡_, refl, sym, ap, _∙_}
+use mathlib.Core.Logic.{inl, inr}
+use mathlib.Core.Bool.{Bool, true, false, cond}
+use mathlib.Core.List.{List, []}
+use mathlib.Core.Option.{Option, none, some}
+use Prim.Native.Nat.{ℕ, _-_, _*_, _/_, _^_, _<_, _≤_}
+use native.Mathlib.Omega.{arith}
+use lib.Dec.{eqb, leb, lit≤}
+use lib.ListN.{length}
+use borrow.Author.Tests.{eqb-true, ltb-true, leb-true, ne-eqb}
+use Rattle.lemmas.specs.Cases.{byCases, and-both, never-both}
+use Rattle.span.specs.Range.{runOf, unitExponent}
+use Rattle.span.specs.Runs.{moved-lt, run-low-bits}
+use Rattle.packet.specs.declared.ITag.{ITag}
+use Rattle.packet.specs.declared.Tag.{Tag}
+use Rattle.packet.specs.declared.Access.the-variants.{Read as Fetches, Write}
+use Rattle.packet.specs.declared.PageRequest.{PageRequest}
+use Rattle.packet.specs.Numbers.{Said, gives, number}
+use Rattle.packet.specs.Laws.{demanded}
+use Rattle.packet.specs.Forms.{dwordsOf}
+use Rattle.tlp.specs.Fields.{typed-request, typed-access, typed-page}
+use Rattle.atc.specs.declared.Found.{Found}
+use Rattle.atc.specs.declared.Found.the-variants.{Hit, Miss}
+use Rattle.atc.specs.Cache.{slotAt, found, emptied}
+use Rattle.atc.specs.Laws.{empty-long, empty-slot, found-is}
+use Rattle.tags.specs.declared.Open.{Open}
+use Rattle.tags.specs.declared.Open.the-variants.{Free, Ask, Read}
+use Rattle.tags.specs.declared.Tr.{Tr}
+use Rattle.tags.specs.Itags.{isIn}
+use Rattle.tags.specs.Tags.{asked, fetching, freeTag, heldAt, placed, isTag, rangeOf, noteOf, staled}
+use Rattle.tags.specs.Laws.{in-none, placed-long, staled-long, staled-held, held-placed, free-tag}
+use Rattle.pages.specs.declared.Pages.{Pages}
+use Rattle.pages.specs.Pages.{switchedOn, isWaiting, isSpent}
+use Rattle.pages.specs.declared.Interface.{Interface}
+use Rattle.pages.specs.declared.Interface.the-variants.{Off, On, Stopped}
+use Rattle.state.specs.declared.Function.{Function}
+use Rattle.state.specs.State.{withPages, withPlace, withEnable, headOf}
+use Rattle.state.specs.Switches.{enabling, disabling, isGranted, switchingOn, switchingOff}
+use Rattle.state.specs.Laws.{Does, does-number, does-case}
+use Rattle.asks.specs.Ask.{isAskable, requestOf, asking, few-units}
+use Rattle.accesses.specs.declared.Way.{Way}
+use Rattle.accesses.specs.declared.Way.the-variants.{Read as ToRead, Write as ToWrite}
+use Rattle.accesses.specs.declared.Target.{Target}
+use Rattle.accesses.specs.Access.{memoryOf, unitAt, isAllowed, enteredBy, targetOf, isInPage, going, goingIf, lookingUp, accessing}
+use Rattle.requests.specs.PageRequests.{pageOf, isAsked, requested, requestingOn, requesting}
+use Rattle.card.specs.declared.Asking.{Asking}
+use Rattle.card.specs.declared.Accessing.{Accessing}
+use Rattle.card.specs.declared.Command.{Command}
+use Rattle.card.specs.declared.Command.the-variants.{Enable, Disable, Ask as Asks, Access as Accesses, PagesOn, PagesOff, PageRequest as PageRequests}
+use Rattle.lemmas.specs.Bools.{no-tf, no-some}
+use Rattle.demand.specs.Demand.{Ticket, Sent, TR, MEM, Pending, onSent, uses, completes}
+use Rattle.demand.specs.Laws.{Step}
+use Rattle.tlp.specs.Words.{areBytes}
+use Rattle.keeps.specs.Demands.{terms, isTyped, Call, itag}
+use Rattle.keeps.specs.Views.{no-entry, tag, pendingOf, liveOf, view, Ok, Good, good-plain, good-send, quiet}
+use Rattle.keeps.specs.Marks.{stale-pending, stale-live, stale-note}
+
+-- ---- nothing but E and the page interface
+
+module _ (stu : ℕ) (f : Function) (o : Ok stu f) where
+  -- the rest of the state is as it was
+  pub same-ok : (enabled : Bool) (p : Pages) → Ok stu (withPages (withEnable f enabled) p)
+  same-ok enabled p =
+      record {
+        unit = o .unit;
+        id = o .id;
+        agent = o .agent;
+        slots = o .slots;
+        reached = o .reached;
+        tags = o .tags;
+        begun = o .begun;
+        vector = o .vector;
+        noted = o .noted;
+        known = o .known;
+      }
+
+module _ (stu : ℕ) (f : Function) (o : Ok stu f) (bytes out : List ℕ) (octets : areBytes bytes ≡ true) where
+  abbrev simple : (c : Command) → isTyped c ≡ true → Call
+  simple c ty = record { command = c; bytes = bytes; out = out; typed = ty; octets = octets }
+
+  pub good-disable : (ty : isTyped Disable ≡ true) → Does (Good stu f (simple Disable ty)) (disabling f)
+  unfolding disabling
+  good-disable ty = good-plain stu f (simple Disable ty) _ _ (same-ok stu f o false (f .pages)) (quiet (view f))
+
+  pub good-on : (n : ℕ) (ty : isTyped (PagesOn n) ≡ true) (i : Interface) → Does (Good stu f (simple (PagesOn n) ty)) (switchingOn f n i)
+  unfolding switchingOn
+  good-on n ty Off = does-case _ (isGranted n) _ _ (λ e. good-plain stu f (simple (PagesOn n) ty) _ _ (same-ok stu f o (f .enabled) (switchedOn n)) (quiet (view f))) (λ e. does-number _ 12)
+  good-on n ty On = does-number _ 12
+  good-on n ty Stopped = does-number _ 15
+
+  pub good-off : (ty : isTyped PagesOff ≡ true) (i : Interface) → Does (Good stu f (simple PagesOff ty)) (switchingOff f i)
+  unfolding switchingOff
+  good-off ty Off = good-plain stu f (simple PagesOff ty) _ _ o (quiet (view f))
+  good-off ty On = good-plain stu f (simple PagesOff ty) _ _ (same-ok stu f o (f .enabled) _) (quiet (view f))
+  good-off ty Stopped = good-plain stu f (simple PagesOff ty) _ _ o (quiet (view f))
+
+  -- ---- E set
+  pub good-enable : (ty : isTyped Enable ≡ true) → Does (Good stu f (simple Enable ty)) (enabling f)
+  unfolding enabling
+  good-enable ty =
+      does-case _ (f .enabled) _ _
+      (λ e. good-plain stu f (simple Enable ty) _ _ o (quiet (view f)))
+      (λ e. good-plain stu f (simple Enable ty) _ _
+      (record {
+        unit = o .unit;
+        id = o .id;
+        agent = o .agent;
+        slots = empty-long (f .cache .hand);
+        reached = λ j. rw (empty-slot (f .cache .hand) j) (lit≤ tt);
+        tags = staled-long (f .places) ∙ o .tags;
+        begun = λ t q h. old t q (heldAt (f .places) t) refl (sym (staled-held (f .places) t) ∙ h);
+        vector = o .vector;
+        noted = λ t i h. o .noted t i (sym (ap (λ (n : ℕ). isIn n i) (ap noteOf (staled-held (f .places) t) ∙ stale-note (heldAt (f .places) t))) ∙ h);
+        known = o .known;
+      })
+      (record {
+        opens = λ t. ap (pendingOf (f .stu)) (staled-held (f .places) (tag t)) ∙ stale-pending (f .stu) (heldAt (f .places) (tag t));
+        unused = λ t e. no-tf (sym e);
+        live = λ t l. inl (stale-live (heldAt (f .places) (tag t)) (sym (ap liveOf (staled-held (f .places) (tag t))) ∙ l));
+        slots = λ j x h. no-some (sym (no-entry (f .stu) (slotAt (emptied (f .cache .hand) .slots) j) (empty-slot (f .cache .hand) j)) ∙ h);
+        waiting = λ i. refl;
+        waitsFor = λ i t e. ap (λ (n : ℕ). isIn n (itag (i .number))) (ap noteOf (staled-held (f .places) (tag t)) ∙ stale-note (heldAt (f .places) (tag t)));
+        carried = λ i. refl;
+        notYet = λ i a p. no-some p;
+        dropped = λ i a p. no-some p;
+        stale = λ i a p. no-some p;
+      }))
+    where
+      old : (t : Tag) (q : Tr) (x : Open) → heldAt (f .places) t ≡ x → staled x ≡ Ask q → q .due ≡ 0 → q .whole ≡ 0
+      old t q Free h e d = let z : _≡_ {A = ℕ} 0 1 = cc in absurd (omega arith)
+      old t q (Ask p) h e d =
+          let w : p .whole ≡ q .whole = cc in
+          let v : p .due ≡ q .due = cc in
+          sym w ∙ o .begun t p h (v ∙ d)
+      old t q (Read r) h e d = let z : _≡_ {A = ℕ} 0 1 = cc in absurd (omega arith)
+
+-- ---- a tag opened, freed, or open for less
+
+module _ (stu : ℕ) (f : Function) (o : Ok stu f) (t : Tag) (own : isTag t ≡ true) (b : Open) where
+  pub at-tag : (u : Tag) → heldAt (placed (f .places) t b) u ≡ cond (eqb (u .0) (t .0)) b (heldAt (f .places) u)
+  at-tag u = held-placed (f .places) t b u (o .tags) own
+
+  pub at-own : (u : Tag) → eqb (u .0) (t .0) ≡ true → heldAt (placed (f .places) t b) u ≡ b
+  at-own u e = at-tag u ∙ rw e refl
+
+  pub at-other : (u : Tag) → eqb (u .0) (t .0) ≡ false → heldAt (placed (f .places) t b) u ≡ heldAt (f .places) u
+  at-other u e = at-tag u ∙ rw e refl
+
+  pub place-ok : ((q : Tr) → b ≡ Ask q → q .due ≡ 0 → q .whole ≡ 0) → ((i : ITag) → isIn (noteOf b) i ≡ true → isIn (f .waiting) i ≡ true) → Ok stu (withPlace f t b)
+  place-ok begins notes =
+      record {
+        unit = o .unit;
+        id = o .id;
+        agent = o .agent;
+        slots = o .slots;
+        reached = o .reached;
+        tags = placed-long (f .places) t b ∙ o .tags;
+        begun = λ u q h. byCases (eqb (u .0) (t .0)) (λ e. begins q (sym (at-own u e) ∙ h)) (λ e. o .begun u q (sym (at-other u e) ∙ h));
+        vector = o .vector;
+        noted = λ u i h. byCases (eqb (u .0) (t .0)) (λ e. notes i (sym (ap (λ (x : Open). isIn (noteOf x) i) (at-own u e)) ∙ h)) (λ e. o .noted u i (sym (ap (λ (x : Open). isIn (noteOf x) i) (at-other u e)) ∙ h));
+        known = o .known;
+      }
+
+  -- a request goes out on a tag that was free
+  pub open-step : heldAt (f .places) t ≡ Free → (x : Sent terms) → ((u : ℕ) → uses u (some x) ≡ eqb u (t .0)) → ((u : ℕ) (p : Option (Pending terms)) → onSent u (some x) p ≡ cond (eqb u (t .0)) (pendingOf (f .stu) b) p)
+      → ((i : Ticket) → completes i (some x) ≡ false) → ((i : ITag) → isIn (noteOf b) i ≡ false) → Step 32 (view f) (view (withPlace f t b)) (record { took = none; sent = some x })
+  open-step free x used opened carries unnoted =
+      record {
+        opens = λ u. ap (pendingOf (f .stu)) (at-tag (tag u)) ∙ byCases (eqb u (t .0)) (λ e. rw e (sym (opened u _ ∙ rw e))) (λ e. rw e (sym (opened u _ ∙ rw e)));
+        unused = λ u e. let same = eqb-true u (t .0) (sym (used u) ∙ e) in rw same (ltb-true (t .0) 32 own, ap (pendingOf (f .stu)) free);
+        live = λ u l. byCases (eqb u (t .0)) (λ e. inr (used u ∙ e)) (λ e. inl (sym (ap liveOf (at-other (tag u) e)) ∙ l));
+        slots = λ j e h. inl h;
+        waiting = λ i. rw (carries i) refl;
+        waitsFor = λ i u e. ap (λ (z : Open). isIn (noteOf z) (itag (i .number))) (at-tag (tag u)) ∙ byCases (eqb u (t .0))
+            (λ e. let same = eqb-true u (t .0) e in rw (e, same, free) (unnoted (itag (i .number)) ∙ sym (in-none (itag (i .number))))) (λ e. rw e refl);
+        carried = λ i. carries i;
+        notYet = λ i a p. no-some p;
+        dropped = λ i a p. no-some p;
+        stale = λ i a p. no-some p;
+      }
+
+-- ---- ask
+
+module _ (stu : ℕ) (f : Function) (o : Ok stu f) (a : Asking) (bytes out : List ℕ) (ty : isTyped (Asks a) ≡ true) (octets : areBytes bytes ≡ true) where
+  abbrev ask-call : Call
+  ask-call = record { command = Asks a; bytes = bytes; out = out; typed = ty; octets = octets }
+
+  asks-units : (units : ℕ) → 1 ≤ units → dwordsOf (2 * units) / 2 - 1 ≡ units - 1
+  asks-units units h = rw (ne-eqb (2 * units) 0 (omega arith)) (omega arith)
+
+  pub good-ask : Does (Good stu f ask-call) (asking f (a .address) (a .units) (a .nowrite) out)
+  unfolding asking rangeOf
+  good-ask =
+      does-case _ (f .enabled) _ _
+      (λ on. does-case _ (isAskable (f .rcb) (f .stu) (a .address) (a .units)) _ _
+      (λ few. does-case _ (isTag (freeTag (f .places))) _ _
+      (λ own. let t = freeTag (f .places) in
+      let b = asked (a .address) (a .units - 1) in
+      let n = few-units (f .rcb) (f .stu) (a .address) (a .units) few in
+      good-send stu f ask-call _ _ (requestOf (f .id) t (a .address) (a .units) (a .nowrite)) []
+      (typed-request (headOf (f .id)) (o .id) _ (omega (arith, ltb-true (t .0) 32 own)) (omega (arith, ltb-true (a .address) (2 ^ 64) ty)))
+      (place-ok stu f o t own b (λ q e d. let z : 0 ≡ q .whole = cc in sym z) (λ i e. absurd (never-both _ e (in-none i))))
+      (rw (asks-units (a .units) (n .0), run-low-bits (a .address) (a .units - 1) stu, ← o .unit)
+      (open-step stu f o t own b (free-tag (f .places) (o .tags) own) (TR (t .0) (record { stu = f .stu; range = runOf (a .address) (a .units - 1) (f .stu) })) (λ u. refl) (λ u p. refl) (λ i. refl) in-none)))
+      (λ e. does-number _ 11))
+      (λ e. does-number _ 12))
+      (λ e. does-number _ 6)
+
+-- ---- access
+
+-- where an access goes, and that it is for one DWORD at least
+pub record Goes (words : ℕ) (at : Target) : Type 0 where
+  pub some : 1 ≤ words
+  pub inside : at .address < 18446744073709551616
+
+module _ (stu : ℕ) (f : Function) (o : Ok stu f) (a : Accessing) (bytes out : List ℕ) (ty : isTyped (Accesses a) ≡ true) (octets : areBytes bytes ≡ true) where
+  abbrev access-call : Call
+  access-call = record { command = Accesses a; bytes = bytes; out = out; typed = ty; octets = octets }
+
+  goes : (at : Target) → lookingUp f (a .way) (a .address) (a .words) (length bytes) ≡ gives at → Goes (a .words) at
+  unfolding lookingUp
+  goes at e =
+      let on = demanded (f .enabled) 6 _ e in
+      let page = demanded (isInPage (a .address) (a .words)) 12 _ (on .1) in
+      let load = demanded (eqb (length bytes) _) 12 _ (page .1) in
+      record {
+        some = leb-true 1 (a .words) (and-both (leb 1 (a .words)) _ (page .0) .0);
+        inside = entered (found (f .cache .slots) (unitAt (f .stu) (a .address))) refl (load .1);
+      }
+    where
+      entered : (x : Found) → found (f .cache .slots) (unitAt (f .stu) (a .address)) ≡ x → enteredBy (a .way) (f .stu) (a .address) x ≡ gives at → at .address < 18446744073709551616
+      entered Miss h q = let z : _≡_ {A = ℕ} 0 1 = cc in absurd (omega arith)
+      entered (Hit x) h q =
+          let s = found-is (f .cache .slots) (o .slots) (unitAt (f .stu) (a .address)) x h in
+          let there : slotAt (f .cache .slots) (s .2 .0) ≡ x = s .2 .2 in
+          let to : x .to < 18446744073709551616 = rw there at (o .reached (s .2 .0)) in
+          let g = demanded (isAllowed (a .way) x) 14 _ q .1 in
+          let same : targetOf (f .stu) (a .address) x ≡ at = cc in
+          rw (← same) (byCases (x .u) (λ u. rw u (ltb-true (a .address) (2 ^ 64) ty)) (λ u. rw u (moved-lt (x .to) (a .address) (unitExponent (f .stu)) to)))
+
+  goes-good : (way : Way) (at : Target) → Goes (a .words) at → Does (Good stu f access-call) (going f way at (a .address) (a .words) bytes out)
+  goes-good ToWrite at g = good-send stu f access-call _ _ (memoryOf (f .id) Write (a .words) at) bytes (typed-access (headOf (f .id)) (o .id) _ tt (g .inside)) o (quiet (view f))
+  goes-good ToRead at g =
+      does-case _ (isTag (freeTag (f .places))) _ _
+      (λ own. let t = freeTag (f .places) in
+      let b = fetching (a .address) (4 * a .words) (at .translated) in
+      good-send stu f access-call _ _ (memoryOf (f .id) (Fetches t) (a .words) at) bytes
+      (typed-access (headOf (f .id)) (o .id) _ (omega (arith, ltb-true (t .0) 32 own)) (g .inside))
+      (place-ok stu f o t own b (λ q e d. let z : _≡_ {A = ℕ} 0 1 = cc in absurd (omega arith)) (λ i e. absurd (never-both _ e (in-none i))))
+      (rw (ne-eqb (a .words) 0 (omega (arith, g .some)))
+      (open-step stu f o t own b (free-tag (f .places) (o .tags) own) (MEM (t .0) (at .translated) (record { address = some (a .address); bytes = 4 * a .words })) (λ u. refl) (λ u p. refl) (λ i. refl) in-none)))
+      (λ e. does-number _ 11)
+
+  pub good-access : Does (Good stu f access-call) (accessing f (a .way) (a .address) (a .words) bytes out)
+  unfolding accessing
+  good-access = go (lookingUp f (a .way) (a .address) (a .words) (length bytes)) refl
+    where
+      go : (s : Said Target) → lookingUp f (a .way) (a .address) (a .words) (length bytes) ≡ s → Does (Good stu f access-call) (goingIf f (a .way) (a .address) (a .words) bytes out s)
+      go (gives at) e = goes-good (a .way) at (goes at e)
+      go (number n) e = does-number _ n
+
+-- ---- page requests
+
+module _ (stu : ℕ) (f : Function) (o : Ok stu f) (q : PageRequest) (bytes out : List ℕ) (ty : isTyped (PageRequests q) ≡ true) (octets : areBytes bytes ≡ true) where
+  abbrev page-call : Call
+  page-call = record { command = PageRequests q; bytes = bytes; out = out; typed = ty; octets = octets }
+
+  pub good-page : (i : Interface) → Does (Good stu f page-call) (requesting f q out i)
+  unfolding requestingOn
+  good-page Off = does-number _ 15
+  good-page Stopped = does-number _ 15
+  good-page On =
+      does-case _ (isAsked q) _ _
+      (λ e. does-case _ (isWaiting (f .pages .groups) (q .index)) _ _ (λ w. does-number _ 16)
+      (λ w. does-case _ (isSpent (f .pages .groups) (f .pages .allocation)) _ _ (λ s. does-number _ 16)
+      (λ s. good-send stu f page-call _ _ (pageOf (f .id) q) [] (typed-page (headOf (f .id)) (o .id) q (ltb-true (q .page) (2 ^ 64) ty)) (same-ok stu f o (f .enabled) (requested (f .pages) q)) (quiet (view f)))))
+      (λ e. does-number _ 12)

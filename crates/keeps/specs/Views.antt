@@ -1,0 +1,137 @@
+-- The views of the card's state that demand 3 is shown by, and what holds of every state that a run reaches.
+use mathlib.Core.Path.{_≡_, refl, sym}
+use mathlib.Core.Logic.{inl}
+use mathlib.Core.Bool.{Bool, true, false, not, cond, _&&_}
+use mathlib.Core.List.{List, _++_}
+use mathlib.Core.Option.{Option, none, some}
+use Prim.Native.Nat.{ℕ, _-_, _<_}
+use lib.Dec.{eqb}
+use lib.ListN.{length, take, drop}
+use Rattle.packet.specs.declared.ITag.{ITag}
+use Rattle.packet.specs.declared.Tag.{Tag}
+use Rattle.packet.specs.declared.Packet.{Packet}
+use Rattle.packet.specs.Numbers.{Said, gives, number}
+use Rattle.packet.specs.Reading.{reading}
+use Rattle.packet.specs.Writing.{writing, bytesOf}
+use Rattle.tlp.specs.Fields.{Typed}
+use Rattle.tlp.specs.Laws.{sent-reads, nothing-reads}
+use Rattle.atc.specs.declared.Entry.{Entry}
+use Rattle.atc.specs.Cache.{slotAt, nothing}
+use Rattle.tags.specs.declared.Open.{Open}
+use Rattle.tags.specs.declared.Open.the-variants.{Free, Ask, Read}
+use Rattle.tags.specs.declared.Tr.{Tr}
+use Rattle.tags.specs.declared.Fetch.{Fetch}
+use Rattle.tags.specs.Itags.{isIn}
+use Rattle.tags.specs.Tags.{heldAt, rangeOf, noteOf}
+use Rattle.state.specs.declared.Function.{Function}
+use Rattle.state.specs.declared.Agent.{Agent}
+use Rattle.state.specs.declared.Agent.the-variants.{Unknown, Known}
+use Rattle.state.specs.Answers.{Word, Deed, plainly, sentAs, sending}
+use Rattle.state.specs.Laws.{Does, does-plain, does-number}
+use Rattle.drains.specs.Drain.{agentId}
+use Rattle.lemmas.specs.Bools.{no-tf, no-some}
+use Rattle.demand.specs.Demand.{Sent, Pending, translation, fetch}
+use Rattle.demand.specs.Laws.{View, Step}
+use Rattle.keeps.specs.Demands.{Asked, Wanted, Cached, terms, Call, itag, isListed, callTaken, packetSent, heldIn}
+
+-- ---- one tag
+
+abbrev pub tag : ℕ → Tag
+tag t = record { 0 = t }
+
+abbrev pub askedBy : ℕ → Tr → Asked
+askedBy stu q = record { stu = stu; range = rangeOf q stu }
+
+abbrev pub wantedBy : Fetch → Wanted
+wantedBy r = record { address = some (r .address); bytes = r .bytes }
+
+abbrev pub pendingOf : ℕ → Open → Option (Pending terms)
+pendingOf stu Free = none
+pendingOf stu (Ask q) = some (translation (askedBy stu q) (q .whole - q .due))
+pendingOf stu (Read r) = some (fetch (r .translated) (wantedBy r) (r .due))
+
+abbrev pub liveOf : Open → Bool
+liveOf Free = false
+liveOf (Ask q) = not (q .stale)
+liveOf (Read r) = false
+
+-- ---- the state
+
+pub no-entry : (stu : ℕ) (x : Entry) → x ≡ nothing → cond {A = Option Cached} (x .used) (some (record { stu = stu; entry = x })) none ≡ none
+no-entry stu x e = rw e
+
+abbrev pub isAgent : Agent → ℕ → Bool
+isAgent Unknown g = false
+isAgent (Known id) g = eqb g id
+
+abbrev pub view : Function → View terms
+view f =
+    record {
+      held = heldIn f;
+      opens = λ t. pendingOf (f .stu) (heldAt (f .places) (tag t));
+      live = λ t. liveOf (heldAt (f .places) (tag t));
+      waiting = λ i. isAgent (f .agent) (i .agent) && isListed (f .waiting) (i .number);
+      waitsFor = λ i t. isIn (noteOf (heldAt (f .places) (tag t))) (itag (i .number));
+    }
+
+-- what holds of every state that is reached; stu is that of the last reset
+pub record Ok (stu : ℕ) (f : Function) : Type 0 where
+  pub unit : f .stu ≡ stu
+  pub id : f .id < 65536
+  pub agent : agentId (f .agent) < 65536
+  pub slots : length (f .cache .slots) ≡ 32
+  pub reached : (j : ℕ) → slotAt (f .cache .slots) j .to < 18446744073709551616
+  pub tags : length (f .places) ≡ 32
+  -- a first packet of two has left something due
+  pub begun : (t : Tag) (q : Tr) → heldAt (f .places) t ≡ Ask q → q .due ≡ 0 → q .whole ≡ 0
+  pub vector : f .waiting < 4294967296
+  -- only ITags that wait are noted, and they wait for someone
+  pub noted : (t : Tag) (i : ITag) → isIn (noteOf (heldAt (f .places) t)) i ≡ true → isIn (f .waiting) i ≡ true
+  pub known : (i : ITag) → isIn (f .waiting) i ≡ true → f .agent ≡ Unknown → ⊥
+
+-- a call that was not refused keeps that, and does to the views what is seen of it
+pub record Good (stu : ℕ) (f : Function) (c : Call) (d : Deed) : Type 0 where
+  pub ok : Ok stu (d .state)
+  pub step : Step 32 (view f) (view (d .state))
+      (record {
+        took = callTaken stu (c .command) (c .bytes);
+        sent = packetSent stu (c .command) (reading (take (d .sent) (d .bytes ++ drop (length (d .bytes)) (c .out))));
+      })
+
+module _ (stu : ℕ) (f : Function) (c : Call) where
+  abbrev pub Effects : Function → Option (Sent terms) → Type 0
+  Effects g s = Step 32 (view f) (view g) (record { took = callTaken stu (c .command) (c .bytes); sent = s })
+
+  pub good-plain : (g : Function) (w : Word) → Ok stu g → Effects g none → Does (Good stu f c) (plainly g w)
+  good-plain g w o s = does-plain (Good stu f c) g w (record { ok = o; step = rw nothing-reads s })
+
+  -- what was sent reads as what it is
+  pub good-send : (g : Function) (w : Word) (p : Packet) (load : List ℕ) → Typed p → Ok stu g → Effects g (packetSent stu (c .command) (gives p)) → Does (Good stu f c) (sending g w p load (c .out))
+  unfolding sending
+  good-send g w p load ty o s = go (writing p (length load) (length (c .out))) refl
+    where
+      go : (r : Said ℕ) → writing p (length load) (length (c .out)) ≡ r → Does (Good stu f c) (sentAs g w (bytesOf p load) r)
+      go (number n) e = does-number (Good stu f c) n
+      go (gives n) e = record { deed = λ d q. let same : record { state = g; word = w; sent = n; bytes = bytesOf p load } ≡ d = cc in rw same at one }
+        where
+          back : reading (take n (bytesOf p load ++ drop (length (bytesOf p load)) (c .out))) ≡ gives p
+          back = rw e at (sent-reads p load (c .out) n ty e)
+
+          one : Good stu f c (record { state = g; word = w; sent = n; bytes = bytesOf p load })
+          one = record { ok = o; step = rw back s }
+
+-- nothing is taken or sent, and nothing changes
+pub quiet : (v : View terms) → Step 32 v v (record { took = none; sent = none })
+quiet v =
+    record {
+      opens = λ t. refl;
+      unused = λ t e. no-tf (sym e);
+      live = λ t e. inl e;
+      slots = λ j e h. inl h;
+      waiting = λ i. refl;
+      waitsFor = λ i t e. refl;
+      carried = λ i. refl;
+      notYet = λ i a p. no-some p;
+      dropped = λ i a p. no-some p;
+      stale = λ i a p. no-some p;
+    }

@@ -1,0 +1,5 @@
+-- Settlement: a promise that the result is a definition of the arguments allows one result.
+use mathlib.Core.Path.{_≡_, sym, _∙_}
+
+pub settled : {A : Type 0} {d r q : A} → r ≡ d → q ≡ d → r ≡ q
+settled e g = e ∙ sym g

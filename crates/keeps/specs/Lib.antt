@@ -1,5 +1,6 @@
 pub mod Demands
 pub mod Views
+pub mod Placed
 pub mod Marks
 pub mod Sends
 pub mod Drains

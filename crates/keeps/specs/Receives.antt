@@ -60,10 +60,11 @@ use Rattle.tlp.specs.Words.{areBytes}
 use Rattle.keeps.specs.Demands.{Cached, Reply, terms, isTyped, Call, dataIn, bodyTaken, heldIn}
 use Rattle.keeps.specs.Views.{pendingOf, liveOf, view, Ok, Good, good-plain, quiet, no-entry}
 use Rattle.keeps.specs.Sends.{same-ok}
+use Rattle.keeps.specs.Placed.{left, left-ok}
 use Rattle.keeps.specs.Snoops.{held-entry, gone-ok, gone-step}
 use Rattle.tlp.specs.Words.{octets, dropped-bytes}
 use Rattle.replies.specs.Parts.{last-whole, off-whole, first-begins, first-fits, last-fits}
-use Rattle.keeps.specs.Completions.{brought-replied, brought-to, left, left-ok, left-step}
+use Rattle.keeps.specs.Completions.{brought-replied, brought-to, left-step}
 
 module _ (stu : ℕ) (f : Function) (o : Ok stu f) (bytes out : List ℕ) (ty : isTyped Receive ≡ true) (are : areBytes bytes ≡ true) (p : Packet) (e : reading bytes ≡ gives p) where
   abbrev receive-call : Call
@@ -95,14 +96,14 @@ module _ (stu : ℕ) (f : Function) (o : Ok stu f) (bytes out : List ℕ) (ty : 
       -- the cache stays
       same-cache : (d : Option Reply) → dataIn (c .outcome) (c .count) load ≡ d → (enabled : Bool) (after : Open) (w : Word) → pendingOf (f .stu) after ≡ leaves d (pendingOf (f .stu) b) → (liveOf after ≡ true → liveOf b ≡ true)
           → ((q : Tr) → after ≡ Ask q → q .due ≡ 0 → q .whole ≡ 0) → ((i : ITag) → isIn (noteOf after) i ≡ (isOpen (leaves {T = terms} d (pendingOf (f .stu) b)) && isIn (noteOf b) i))
-          → Does (Good stu f receive-call) (plainly (left stu f o t own b holds enabled (f .cache) after) w)
+          → Does (Good stu f receive-call) (plainly (left f t enabled (f .cache) after) w)
       same-cache d given enabled after w opened lived begins notes =
           plain (Cpl c) is _ w
-          (left-ok stu f o t own b holds enabled (f .cache) after (o .slots) (o .reached) begins (λ i h. and-both (isOpen (leaves {T = terms} d (pendingOf (f .stu) b))) _ (sym (notes i) ∙ h) .1))
+          (left-ok stu f o t own after enabled (f .cache) (o .slots) (o .reached) begins (λ i h. o .noted t i (ap (λ (x : Open). isIn (noteOf x) i) holds ∙ and-both (isOpen (leaves {T = terms} d (pendingOf (f .stu) b))) _ (sym (notes i) ∙ h) .1)))
           (rw given (left-step stu f o t own b holds enabled (f .cache) after d opened lived notes (λ j x h. inl h)))
 
       -- the tag is freed
-      frees : (d : Option Reply) → dataIn (c .outcome) (c .count) load ≡ d → (enabled : Bool) (w : Word) → leaves {T = terms} d (pendingOf (f .stu) b) ≡ none → Does (Good stu f receive-call) (plainly (left stu f o t own b holds enabled (f .cache) Free) w)
+      frees : (d : Option Reply) → dataIn (c .outcome) (c .count) load ≡ d → (enabled : Bool) (w : Word) → leaves {T = terms} d (pendingOf (f .stu) b) ≡ none → Does (Good stu f receive-call) (plainly (left f t enabled (f .cache) Free) w)
       frees d given enabled w closed =
           same-cache d given enabled Free w (sym closed) (λ l. no-tf (sym l)) (λ q h. let z : _≡_ {A = ℕ} 0 1 = cc in absurd (omega arith))
           (λ i. in-none i ∙ sym (ap (λ (x : Option _). isOpen x && isIn (noteOf b) i) closed))
@@ -151,10 +152,10 @@ module _ (stu : ℕ) (f : Function) (o : Ok stu f) (bytes out : List ℕ) (ty : 
       -- with the translations of a live request applied
       fills-cache : dataIn (c .outcome) (c .count) load ≡ some reply → isLive f q ≡ true → fits q (f .stu) load ≡ true → (after : Open) (w : Word) → pendingOf (f .stu) after ≡ leaves (some reply) (pendingOf (f .stu) (Ask q))
           → (liveOf after ≡ true → liveOf (Ask q) ≡ true) → ((q : Tr) → after ≡ Ask q → q .due ≡ 0 → q .whole ≡ 0) → ((i : ITag) → isIn (noteOf after) i ≡ false)
-          → Does (Good stu f receive-call) (plainly (left stu f o t (own (Ask q) holds asks-used) (Ask q) holds (f .enabled) filled-cache after) w)
+          → Does (Good stu f receive-call) (plainly (left f t (f .enabled) filled-cache after) w)
       fills-cache given live fit after w opened lived begins notes =
           plain (Cpl c) is _ w
-          (left-ok stu f o t (own (Ask q) holds asks-used) (Ask q) holds (f .enabled) filled-cache after filled-long filled-reached begins (λ i h. absurd (never-both _ h (notes i))))
+          (left-ok stu f o t (own (Ask q) holds asks-used) after (f .enabled) filled-cache filled-long filled-reached begins (λ i h. absurd (never-both _ h (notes i))))
           (rw given (left-step stu f o t (own (Ask q) holds asks-used) (Ask q) holds (f .enabled) filled-cache after (some reply) opened lived (λ i. notes i ∙ sym (ap (λ (b : Bool). isOpen (leaves {T = terms} (some reply) (pendingOf (f .stu) (Ask q))) && b) (in-none i) ∙ and-false (isOpen (leaves {T = terms} (some reply) (pendingOf (f .stu) (Ask q)))))) slots))
         where
           slots : (j : ℕ) (y : Cached) → cond {A = Option Cached} (slotAt (filled-cache .slots) j .used) (some (record { stu = f .stu; entry = slotAt (filled-cache .slots) j })) none ≡ some y

@@ -28,8 +28,8 @@ use Rattle.tags.specs.declared.Open.{Open}
 use Rattle.tags.specs.declared.Open.the-variants.{Free, Ask, Read}
 use Rattle.tags.specs.declared.Tr.{Tr}
 use Rattle.tags.specs.Itags.{isIn}
-use Rattle.tags.specs.Tags.{asked, fetching, freeTag, heldAt, placed, isTag, rangeOf, noteOf, staled}
-use Rattle.tags.specs.Laws.{in-none, placed-long, staled-long, staled-held, held-placed, free-tag}
+use Rattle.tags.specs.Tags.{asked, fetching, freeTag, heldAt, isTag, rangeOf, noteOf, staled}
+use Rattle.tags.specs.Laws.{in-none, staled-long, staled-held, free-tag}
 use Rattle.pages.specs.declared.Pages.{Pages}
 use Rattle.pages.specs.Pages.{switchedOn, isWaiting, isSpent}
 use Rattle.pages.specs.declared.Interface.{Interface}
@@ -54,6 +54,7 @@ use Rattle.demand.specs.Laws.{Step}
 use Rattle.tlp.specs.Words.{areBytes}
 use Rattle.keeps.specs.Demands.{terms, isTyped, Call, itag}
 use Rattle.keeps.specs.Views.{no-entry, tag, pendingOf, liveOf, view, Ok, Good, good-plain, good-send, quiet}
+use Rattle.keeps.specs.Placed.{at-own, at-other, left-ok}
 use Rattle.keeps.specs.Marks.{stale-pending, stale-live, stale-note}
 
 -- ---- nothing but E and the page interface
@@ -135,45 +136,26 @@ module _ (stu : ℕ) (f : Function) (o : Ok stu f) (bytes out : List ℕ) (octet
           sym w ∙ o .begun t p h (v ∙ d)
       old t q (Read r) h e d = let z : _≡_ {A = ℕ} 0 1 = cc in absurd (omega arith)
 
--- ---- a tag opened, freed, or open for less
+-- ---- a tag opened
 
 module _ (stu : ℕ) (f : Function) (o : Ok stu f) (t : Tag) (own : isTag t ≡ true) (b : Open) where
-  pub at-tag : (u : Tag) → heldAt (placed (f .places) t b) u ≡ cond (eqb (u .0) (t .0)) b (heldAt (f .places) u)
-  at-tag u = held-placed (f .places) t b u (o .tags) own
-
-  pub at-own : (u : Tag) → eqb (u .0) (t .0) ≡ true → heldAt (placed (f .places) t b) u ≡ b
-  at-own u e = at-tag u ∙ rw e refl
-
-  pub at-other : (u : Tag) → eqb (u .0) (t .0) ≡ false → heldAt (placed (f .places) t b) u ≡ heldAt (f .places) u
-  at-other u e = at-tag u ∙ rw e refl
-
-  pub place-ok : ((q : Tr) → b ≡ Ask q → q .due ≡ 0 → q .whole ≡ 0) → ((i : ITag) → isIn (noteOf b) i ≡ true → isIn (f .waiting) i ≡ true) → Ok stu (withPlace f t b)
-  place-ok begins notes =
-      record {
-        unit = o .unit;
-        id = o .id;
-        agent = o .agent;
-        slots = o .slots;
-        reached = o .reached;
-        tags = placed-long (f .places) t b ∙ o .tags;
-        begun = λ u q h. byCases (eqb (u .0) (t .0)) (λ e. begins q (sym (at-own u e) ∙ h)) (λ e. o .begun u q (sym (at-other u e) ∙ h));
-        vector = o .vector;
-        noted = λ u i h. byCases (eqb (u .0) (t .0)) (λ e. notes i (sym (ap (λ (x : Open). isIn (noteOf x) i) (at-own u e)) ∙ h)) (λ e. o .noted u i (sym (ap (λ (x : Open). isIn (noteOf x) i) (at-other u e)) ∙ h));
-        known = o .known;
-      }
+  opened-ok : ((q : Tr) → b ≡ Ask q → q .due ≡ 0 → q .whole ≡ 0) → ((i : ITag) → isIn (noteOf b) i ≡ false) → Ok stu (withPlace f t b)
+  opened-ok begins notes = left-ok stu f o t own b (f .enabled) (f .cache) (o .slots) (o .reached) begins (λ i e. absurd (never-both _ e (notes i)))
 
   -- a request goes out on a tag that was free
   pub open-step : heldAt (f .places) t ≡ Free → (x : Sent terms) → ((u : ℕ) → uses u (some x) ≡ eqb u (t .0)) → ((u : ℕ) (p : Option (Pending terms)) → onSent u (some x) p ≡ cond (eqb u (t .0)) (pendingOf (f .stu) b) p)
       → ((i : Ticket) → completes i (some x) ≡ false) → ((i : ITag) → isIn (noteOf b) i ≡ false) → Step 32 (view f) (view (withPlace f t b)) (record { took = none; sent = some x })
   open-step free x used opened carries unnoted =
       record {
-        opens = λ u. ap (pendingOf (f .stu)) (at-tag (tag u)) ∙ byCases (eqb u (t .0)) (λ e. rw e (sym (opened u _ ∙ rw e))) (λ e. rw e (sym (opened u _ ∙ rw e)));
+        opens = λ u. byCases (eqb u (t .0)) (λ e. ap (pendingOf (f .stu)) (at-own stu f o t own b (tag u) e) ∙ sym (opened u (pendingOf (f .stu) (heldAt (f .places) (tag u))) ∙ rw e refl))
+            (λ e. ap (pendingOf (f .stu)) (at-other stu f o t own b (tag u) e) ∙ sym (opened u (pendingOf (f .stu) (heldAt (f .places) (tag u))) ∙ rw e refl));
         unused = λ u e. let same = eqb-true u (t .0) (sym (used u) ∙ e) in rw same (ltb-true (t .0) 32 own, ap (pendingOf (f .stu)) free);
-        live = λ u l. byCases (eqb u (t .0)) (λ e. inr (used u ∙ e)) (λ e. inl (sym (ap liveOf (at-other (tag u) e)) ∙ l));
+        live = λ u l. byCases (eqb u (t .0)) (λ e. inr (used u ∙ e)) (λ e. inl (sym (ap liveOf (at-other stu f o t own b (tag u) e)) ∙ l));
         slots = λ j e h. inl h;
         waiting = λ i. rw (carries i) refl;
-        waitsFor = λ i u e. ap (λ (z : Open). isIn (noteOf z) (itag (i .number))) (at-tag (tag u)) ∙ byCases (eqb u (t .0))
-            (λ e. let same = eqb-true u (t .0) e in rw (e, same, free) (unnoted (itag (i .number)) ∙ sym (in-none (itag (i .number))))) (λ e. rw e refl);
+        waitsFor = λ i u w. byCases (eqb u (t .0))
+            (λ e. let same = eqb-true u (t .0) e in ap (λ (z : Open). isIn (noteOf z) (itag (i .number))) (at-own stu f o t own b (tag u) e) ∙ rw (same, free) (unnoted (itag (i .number)) ∙ sym (in-none (itag (i .number)))))
+            (λ e. ap (λ (z : Open). isIn (noteOf z) (itag (i .number))) (at-other stu f o t own b (tag u) e));
         carried = λ i. carries i;
         notYet = λ i a p. no-some p;
         dropped = λ i a p. no-some p;
@@ -200,7 +182,7 @@ module _ (stu : ℕ) (f : Function) (o : Ok stu f) (a : Asking) (bytes out : Lis
       let n = few-units (f .rcb) (f .stu) (a .address) (a .units) few in
       good-send stu f ask-call _ _ (requestOf (f .id) t (a .address) (a .units) (a .nowrite)) []
       (typed-request (headOf (f .id)) (o .id) _ (omega (arith, ltb-true (t .0) 32 own)) (omega (arith, ltb-true (a .address) (2 ^ 64) ty)))
-      (place-ok stu f o t own b (λ q e d. let z : 0 ≡ q .whole = cc in sym z) (λ i e. absurd (never-both _ e (in-none i))))
+      (opened-ok stu f o t own b (λ q e d. let z : 0 ≡ q .whole = cc in sym z) in-none)
       (rw (asks-units (a .units) (n .0), run-low-bits (a .address) (a .units - 1) stu, ← o .unit)
       (open-step stu f o t own b (free-tag (f .places) (o .tags) own) (TR (t .0) (record { stu = f .stu; range = runOf (a .address) (a .units - 1) (f .stu) })) (λ u. refl) (λ u p. refl) (λ i. refl) in-none)))
       (λ e. does-number _ 11))
@@ -247,7 +229,7 @@ module _ (stu : ℕ) (f : Function) (o : Ok stu f) (a : Accessing) (bytes out : 
       let b = fetching (a .address) (4 * a .words) (at .translated) in
       good-send stu f access-call _ _ (memoryOf (f .id) (Fetches t) (a .words) at) bytes
       (typed-access (headOf (f .id)) (o .id) _ (omega (arith, ltb-true (t .0) 32 own)) (g .inside))
-      (place-ok stu f o t own b (λ q e d. let z : _≡_ {A = ℕ} 0 1 = cc in absurd (omega arith)) (λ i e. absurd (never-both _ e (in-none i))))
+      (opened-ok stu f o t own b (λ q e d. let z : _≡_ {A = ℕ} 0 1 = cc in absurd (omega arith)) in-none)
       (rw (ne-eqb (a .words) 0 (omega (arith, g .some)))
       (open-step stu f o t own b (free-tag (f .places) (o .tags) own) (MEM (t .0) (at .translated) (record { address = some (a .address); bytes = 4 * a .words })) (λ u. refl) (λ u p. refl) (λ i. refl) in-none)))
       (λ e. does-number _ 11)

@@ -1,12 +1,13 @@
 """What each kind of test file asks, one line in, one line out.
 
-    python3 drivers.py reading|writing|sizes|calls < stdin > stdout
+    python3 drivers.py packets|calls < stdin > stdout
 
-reading: a packet in hex -> its field record and the packet written again.
-writing: a field record -> the packet. sizes: an 8-byte word -> base, log2 of
-the size, N U W R. A refusal is BAD and its number. calls: a call of the
-Function -> what it answers, sends and becomes (calls.py tells the form); the
-lines are given one after another to the same Function, new at the first.
+packets: by the line's first letter, R: a packet in hex -> its field record and
+the packet written again; W: a field record -> the packet; S: an 8-byte word ->
+base, log2 of the size, N U W R. A refusal is BAD and its number. calls: a call
+of the Function -> what it answers, sends and becomes (calls.py tells the
+form); the lines are given one after another to the same Function, new at the
+first.
 """
 
 import sys
@@ -53,14 +54,20 @@ def sizes(line):
     return "%016X\t%d\t%s" % (got[0], got[1], flags)
 
 
+# What the first letter of a line asks for.
+LETTERS = {b"R": reading, b"W": writing, b"S": sizes}
+
+
+def packet_layer(line):
+    """One line of the test of the packet layer."""
+    return LETTERS[line[:1]](line[1:])
+
+
 # The last one has a state: the Function that its lines are given to.
-DRIVERS = {"reading": reading, "writing": writing, "sizes": sizes,
-           "calls": calls.Script().answer}
+DRIVERS = {"packets": packet_layer, "calls": calls.Script().answer}
 
 if __name__ == "__main__":
     drive = DRIVERS[sys.argv[1]]
-    # Field records may be longer than the listing's longest line.
-    source = (listing.lines(sys.stdin.buffer) if sys.argv[1] == "reading"
-              else (line.rstrip(b"\n") for line in sys.stdin.buffer))
-    for text in source:
-        sys.stdout.buffer.write(drive(text).encode("ascii") + b"\n")
+    for text in sys.stdin.buffer:
+        answer = drive(text.rstrip(b"\n"))
+        sys.stdout.buffer.write(answer.encode("ascii") + b"\n")

@@ -1,11 +1,11 @@
 """Write the test files: python3 generate.py DIR
 
-Makes listing, reading, writing, sizes and calls, each a .stdin and a .stdout,
-the same bytes each time. Every case made to show a certain number is checked
-to show it; size-codes.tsv is checked row by row; the fixed scripts of calls
-are checked step by step. Prints how often each number and kind came up and,
-for the calls, each number and answer; exits with 1 if one that can occur
-never did, or one that cannot did.
+Makes listing, packets (reading, writing and sizes, one after the other) and
+calls, each a .stdin and a .stdout, the same bytes each time. Every case made
+to show a certain number is checked to show it; size-codes.tsv is checked row
+by row; the fixed scripts of calls are checked step by step. Prints how often
+each number and kind came up and, for the calls, each number and answer; exits
+with 1 if one that can occur never did, or one that cannot did.
 """
 
 import io
@@ -31,8 +31,7 @@ CANNOT = (("IC", "4"),)
 NUMBERS = {"listing": ("ok", "0", "1", "2", "3", "4"),
            "reading": ("ok", "0", "1", "2", "3", "4"),
            "writing": ("ok", "12", "4", "17")}
-LARGEST = {"listing": 400, "reading": 400, "writing": 400, "sizes": 400,
-           "calls": 900}        # thousand bytes
+LARGEST = {"listing": 400, "packets": 500, "calls": 900}     # thousand bytes
 
 
 def check(want, got, line):
@@ -78,6 +77,23 @@ def make_sizes(rng):
         asked.append(line + b"\n")
         answered.append(text.encode("ascii") + b"\n")
     return b"".join(asked), b"".join(answered)
+
+
+def make_packets(counts):
+    """(stdin, stdout) of the packet layer: each line begins with its letter."""
+    parts = {
+        b"R": make("reading", cases_reading.cases(Rng(2)),
+                   lambda _, line: drivers.reading(line), counts),
+        b"W": make("writing", cases_writing.cases(Rng(3)),
+                   lambda _, line: drivers.writing(line), counts),
+        b"S": make_sizes(Rng(4))}
+    asked = [letter + line for letter, (lines, _) in parts.items()
+             for line in lines.split(b"\n")[:-1]]
+    answered = b"".join(part for _, part in parts.values())
+    again = [drivers.packet_layer(line) for line in asked]
+    if again != answered.decode("ascii").split("\n")[:-1]:
+        raise AssertionError("a line's letter does not say what it asks")
+    return b"".join(line + b"\n" for line in asked), answered
 
 
 def make_calls(rng, tally):
@@ -127,11 +143,7 @@ def main(directory):
                             listing.row, counts)
     # The last line of the listing's input has no line feed.
     files["listing"] = files["listing"][0][:-1], files["listing"][1]
-    files["reading"] = make("reading", cases_reading.cases(Rng(2)),
-                            lambda _, line: drivers.reading(line), counts)
-    files["writing"] = make("writing", cases_writing.cases(Rng(3)),
-                            lambda _, line: drivers.writing(line), counts)
-    files["sizes"] = make_sizes(Rng(4))
+    files["packets"] = make_packets(counts)
     files["calls"] = make_calls(Rng(5), tally)
 
     # The stream form of the listing must say the same, in blocks of any size.

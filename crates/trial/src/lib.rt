@@ -1,4 +1,4 @@
-// The programs that hold the packet layer against stored vectors: one line of output for each line
+// The program that holds the packet layer against stored vectors: one line of output for each line
 // of input.
 use packet::Packet;
 use packet::Reading;
@@ -9,12 +9,6 @@ use span::Size;
 use span::Translation;
 ghost use Prim.Native.Nat.{_≤_};
 ghost use lib.ListN.{length};
-
-pub enum Trial {
-    Reading,
-    Writing,
-    Sizes,
-}
 
 // How long the first line of a text is: to its line feed, or to the end.
 pub fn line_length(text: &[u8]) -> usize
@@ -119,43 +113,46 @@ fn size_one(r: &[u8], out: &mut [u8], at: usize) -> usize {
     }
 }
 
-fn decoded(trial: Trial, r: &[u8], out: &mut [u8], at: usize) -> usize {
-    match trial {
-        Trial::Reading => read_one(r, out, at),
-        Trial::Writing => write_one(r, out, at),
-        Trial::Sizes => size_one(r, out, at),
+// A packet to read, a record to write, or else a translation's size: by the line's first character.
+fn decoded(what: u8, r: &[u8], out: &mut [u8], at: usize) -> usize {
+    if what == b'R' {
+        return read_one(r, out, at);
     }
+    if what == b'W' {
+        return write_one(r, out, at);
+    }
+    size_one(r, out, at)
 }
 
 // A packet's line is refused as the listing refuses it; a record's may be longer.
-fn is_too_long(trial: Trial, n: usize) -> bool {
-    match trial {
-        Trial::Reading => 288 < n,
-        Trial::Writing => false,
-        Trial::Sizes => false,
-    }
+fn is_too_long(what: u8, n: usize) -> bool {
+    if what == b'R' { 288 < n } else { false }
 }
 
-fn line(trial: Trial, text: &[u8], out: &mut [u8], at: usize) -> usize {
-    if is_too_long(trial, text.len()) {
+fn tried(what: u8, line: &[u8], out: &mut [u8], at: usize) -> usize {
+    if is_too_long(what, line.len()) {
         return put::bad(out, at, 1);
     }
     let mut space = [0u8; 600];
-    let n = unhex(text, &mut space);
+    let n = unhex(line, &mut space);
     if n <= 600 {
-        decoded(trial, take::front(&space, n), out, at)
+        decoded(what, take::front(&space, n), out, at)
     } else {
         put::bad(out, at, 0)
     }
 }
 
+fn line(text: &[u8], out: &mut [u8], at: usize) -> usize {
+    tried(take::byte(text, 0), take::part(text, 1), out, at)
+}
+
 // One line of output for each line of input; how far the output goes.
-pub fn run(trial: Trial, input: &[u8], out: &mut [u8]) -> usize {
+pub fn run(input: &[u8], out: &mut [u8]) -> usize {
     let mut at = 0;
     let mut from = 0;
     while from < input.len() {
         let end = from + line_length(&input[from..]);
-        let text = line(trial, &input[from..end], out, at);
+        let text = line(&input[from..end], out, at);
         at = put::byte(out, text, b'\n');
         if end == input.len() {
             return at;
@@ -166,8 +163,8 @@ pub fn run(trial: Trial, input: &[u8], out: &mut [u8]) -> usize {
 }
 
 // Answers the lines of standard input on standard output, as far as the buffers go.
-pub fn serve(trial: Trial, input: &mut [u8], output: &mut [u8]) {
+pub fn serve(input: &mut [u8], output: &mut [u8]) {
     let got = io::read_full(0, input);
-    let made = run(trial, &input[..got], output);
+    let made = run(&input[..got], output);
     io::write_all(1, take::front(output, made));
 }

@@ -6,10 +6,10 @@ use Rattle.trial.proofs.run.Statement.{statement}
 use Rattle.trial.proofs.run.Tie as tie
 
 abbrev Inv-loop : tie.InvT-loop
-Inv-loop trial input out₀ at₀ from₀ out at from = (from ≤ length input) × (length out ≡ length out₀)
+Inv-loop input out₀ at₀ from₀ out at from = (from ≤ length input) × (length out ≡ length out₀)
 
 abbrev μ-loop : tie.MeasureT-loop
-μ-loop trial input out₀ at₀ from₀ out at from = length input - from
+μ-loop input out₀ at₀ from₀ out at from = length input - from
 
 loop-holds : tie.Need-loop-holds Inv-loop μ-loop
 loop-holds c = search needs

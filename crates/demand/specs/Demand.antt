@@ -1,4 +1,4 @@
--- Demand 3 of document 01, as a statement about any machine whose calls can be seen. `Demand3`, near the end, is the demand; all before it are its words.
+-- The third demand, as a statement about any machine whose calls can be seen. `OrderFrom` and `Order`, at the end, are the demand; all before them are its words.
 -- Lists of calls, and histories of what was seen of them, stand newest first.
 use mathlib.Core.Path.{_≡_}
 use mathlib.Core.Logic.{_⊎_}
@@ -23,22 +23,22 @@ noneBelow (suc n) f = not (f n) && noneBelow n f
 
 -- What packets speak of, and what follows from it.
 pub record Terms : Type 1 where
-  -- an invalidated range, rounded up to the unit in force; the bytes that a read asks for; what a Translation Request asks for;
-  -- what a completion with data holds; a cache entry
+  -- an invalidated range, rounded up to the unit in force; what a read asks for; what a Translation Request asks for; what a completion
+  -- with data holds; a cache entry
   pub Area : Type 0
-  pub Bytes : Type 0
+  pub Read : Type 0
   pub Ask : Type 0
   pub Data : Type 0
   pub Entry : Type 0
-  -- these bytes, this entry's unit, overlap the area
-  pub meets : Area → Bytes → Bool
+  -- what the read asks for, this entry's unit, overlaps the area
+  pub meets : Area → Read → Bool
   pub overlaps : Area → Entry → Bool
   -- how many bytes a read asks for, how many a completion holds, and whether it is the last of its Translation Request
-  pub wanted : Bytes → ℕ
+  pub wanted : Read → ℕ
   pub size : Data → ℕ
   pub isLast : Data → Bool
-  -- for what was asked, and after so many bytes of completions to it, this one gives the entry
-  pub gives : Ask → ℕ → Data → Entry → Bool
+  -- for what was asked, and after so many bytes of completions to it, this one grants the entry
+  pub grants : Ask → ℕ → Data → Entry → Bool
 
 -- what an Invalidate Request is known by: its ITag, and the agent that sent it
 pub record Ticket : Type 0 where
@@ -61,8 +61,8 @@ pub data Taken (T : Terms) : Type 0 where
 pub data Sent (T : Terms) : Type 0 where
   -- a Translation Request with this tag
   TR : ℕ → T .Ask → Sent T
-  -- a read with this tag: translated (AT 10) or not, and its bytes
-  MEM : ℕ → Bool → T .Bytes → Sent T
+  -- a read with this tag: translated (AT 10) or not, and what it asks for
+  READ : ℕ → Bool → T .Read → Sent T
   -- an Invalidate Completion to this agent, for the ITags of these numbers
   IC : ℕ → (ℕ → Bool) → Sent T
 
@@ -76,7 +76,7 @@ pub record Seen (T : Terms) : Type 0 where
 -- an open request: a Translation Request, and the bytes that came for it; or a read, and the bytes that are still due
 pub data Pending (T : Terms) : Type 0 where
   translation : T .Ask → ℕ → Pending T
-  fetch : Bool → T .Bytes → ℕ → Pending T
+  fetch : Bool → T .Read → ℕ → Pending T
 
 module _ {T : Terms} where
   abbrev pub isOpen : Option (Pending T) → Bool
@@ -100,7 +100,7 @@ module _ {T : Terms} where
   abbrev pub onSent : ℕ → Option (Sent T) → Option (Pending T) → Option (Pending T)
   onSent t none o = o
   onSent t (some (TR u q)) o = cond (eqb t u) (some (translation q 0)) o
-  onSent t (some (MEM u x b)) o = cond (eqb t u) (some (fetch x b (T .wanted b))) o
+  onSent t (some (READ u x b)) o = cond (eqb t u) (some (fetch x b (T .wanted b))) o
   onSent t (some (IC g v)) o = o
 
   -- the request of tag t that is open after the calls h
@@ -123,7 +123,7 @@ module _ {T : Terms} where
   abbrev pub uses : ℕ → Option (Sent T) → Bool
   uses t none = false
   uses t (some (TR u q)) = eqb t u
-  uses t (some (MEM u x b)) = eqb t u
+  uses t (some (READ u x b)) = eqb t u
   uses t (some (IC g v)) = false
 
   -- the area of the Invalidate Request of Ticket i that the call accepts, if it accepts one
@@ -144,7 +144,7 @@ module _ {T : Terms} where
   abbrev pub completes : Ticket → Option (Sent T) → Bool
   completes i none = false
   completes i (some (TR t q)) = false
-  completes i (some (MEM t x b)) = false
+  completes i (some (READ t x b)) = false
   completes i (some (IC g v)) = eqb (i .agent) g && v (i .number)
 
   -- Invalidate Requests of Ticket i accepted, and completions sent for it
@@ -167,13 +167,13 @@ module _ {T : Terms} where
   waits n i (x ∷ h) =
       given (accepts i (x .took)) (λ a. true) (not (drains i (x .took) && noneBelow n (λ t. isOpen (older i t h))) && waits n i h)
 
-  -- completion data d, to the open request o, gives the entry e
+  -- completion data d, to the open request o, grants the entry e
   abbrev pub gave : T .Entry → T .Data → Option (Pending T) → Bool
   gave e d none = false
-  gave e d (some (translation q n)) = T .gives q n d e
+  gave e d (some (translation q n)) = T .grants q n d e
   gave e d (some (fetch x b n)) = false
 
-  -- the call took a completion for a Translation Request that one of the calls h sent, and its data give the entry e
+  -- the call took a completion for a Translation Request that one of the calls h sent, and its data grant the entry e
   abbrev pub brings : T .Entry → Option (Taken T) → List (Seen T) → Bool
   brings e none h = false
   brings e (some (CPL t none)) h = false
@@ -184,19 +184,21 @@ module _ {T : Terms} where
 -- ---- runs
 
 -- How an observer reads a call: from its arguments, the bytes sent and notes of earlier calls. Of an answer it uses only whether it refuses, and the length
--- that it gives of the packet sent; of the state nothing.
+-- that it reports of the packet sent; of the state nothing.
 pub record Observer (T : Terms) : Type 1 where
   pub Call : Type 0
   pub Answer : Type 0
   pub Notes : Type 0
   pub refused : Answer → Bool
-  pub length : Answer → ℕ
+  pub reported : Answer → ℕ
   pub isReset : Call → Bool
   -- what the call brings, if it is not refused; what its packet is; what is noted of it, if it is not refused, and of a new Function
   pub took : Notes → Call → Option (Taken T)
   pub sent : Notes → Call → List ℕ → Option (Sent T)
   pub note : Notes → Call → List ℕ → Notes
-  pub noted : Notes
+  pub atFirst : Notes
+  -- these bytes are a packet, or none
+  pub isPacket : List ℕ → Bool
   -- how many tags there are
   pub tags : ℕ
 
@@ -223,7 +225,7 @@ module _ {T : Terms} {R : Observer T} (M : Machine R) where
 
   -- the packet sent: what was written, as far as the answer says
   abbrev pub packet : Bench M → R .Call → List ℕ
-  packet s c = take (R .length (M .answer (s .fn) c)) (M .buffer (s .fn) c)
+  packet s c = take (R .reported (M .answer (s .fn) c)) (M .buffer (s .fn) c)
 
   abbrev pub next : Bench M → R .Call → Bench M
   next s c = record { fn = M .state (s .fn) c; notes = cond (refuses s c) (s .notes) (R .note (s .notes) c (packet s c)) }
@@ -245,7 +247,7 @@ module _ {T : Terms} {R : Observer T} (M : Machine R) where
   Unbroken s [] = Unit {0}
   Unbroken s (c ∷ cs) = (resets (after s cs) c ≡ false) × Unbroken s cs
 
-  -- The entry e of slot j came from a Translation Request that one of the calls cs sent: one of them took a completion for it whose data give e,
+  -- The entry e of slot j came from a Translation Request that one of the calls cs sent: one of them took a completion for it whose data grant e,
   -- and the slot has held e since.
   abbrev pub CameFrom : ℕ → T .Entry → Bench M → List (R .Call) → Type 0
   CameFrom j e s [] = ⊥
@@ -274,20 +276,28 @@ module _ {T : Terms} {R : Observer T} (M : Machine R) where
   NoOldRead s before c since a = (t : ℕ) → remains t (history (after s (c ∷ before)) since) (readIn a (openAt t (history s before))) ≡ none
 
   -- The third demand, of all runs that begin at s.
-  pub record Demand3 (s : Bench M) : Type 0 where
+  pub record OrderFrom (s : Bench M) : Type 0 where
     -- from the moment a completion is sent: only new entries, and no old read
     pub entries : (before : List (R .Call)) (c : R .Call) (since : List (R .Call)) (i : Ticket) (a : T .Area) → Completed s before c since i a → OnlyNewEntries s before c since a
     pub reads : (before : List (R .Call)) (c : R .Call) (since : List (R .Call)) (i : Ticket) (a : T .Area) → Completed s before c since i a → NoOldRead s before c since a
     -- requests accepted are completions sent, and one more if the ticket waits
     pub counts : (calls : List (R .Call)) → Unbroken s calls → (i : Ticket)
         → requests i (history s calls) ≡ completions i (history s calls) + cond (waits (R .tags) i (history s calls)) 1 0
+    -- all tickets are of one agent, so that what is counted is counted for each ITag
+    pub agent : (calls : List (R .Call)) → Unbroken s calls → (i k : Ticket) → 0 < requests i (history s calls) → 0 < requests k (history s calls) → i .agent ≡ k .agent
     -- beyond the letter: the entries are new ones already from the moment the request arrives
     pub sooner : (before : List (R .Call)) (c : R .Call) (since : List (R .Call)) (i : Ticket) (a : T .Area) → Arrived s before c since i a → OnlyNewEntries s before c since a
-    -- and a request goes out with one of the tags, and not with one that is open: so a completion is for one request
+    -- And nothing escapes the eye. A request goes out with one of the tags, and not with one that is open, so that a completion is for one request;
     pub tags : (calls : List (R .Call)) (c : R .Call) → Unbroken s (c ∷ calls) → (t : ℕ) → uses t (seen (after s calls) c .sent) ≡ true
         → (t < R .tags) × (openAt t (history s calls) ≡ none)
+    -- whatever is sent is a packet;
+    pub legible : (calls : List (R .Call)) (c : R .Call) → Unbroken s (c ∷ calls) → R .isPacket (packet (after s calls) c) ≡ true
+    -- and the call that accepts an Invalidate Request sends nothing, so that all that is sent goes out before it or after it
+    pub apart : (calls : List (R .Call)) (c : R .Call) → Unbroken s (c ∷ calls) → (i : Ticket) (a : T .Area) → accepts i (seen (after s calls) c .took) ≡ some a
+        → packet (after s calls) c ≡ []
 
-  -- From any state and any notes, once a reset is accepted; and from a new Function.
+  -- From any state and any notes, once a reset is accepted, which itself sends nothing; and from a new Function.
   pub record Order : Type 0 where
-    pub reset : (s : Bench M) (c : R .Call) → resets s c ≡ true → Demand3 (next s c)
-    pub new : Demand3 (record { fn = M .new; notes = R .noted })
+    pub silent : (s : Bench M) (c : R .Call) → resets s c ≡ true → packet s c ≡ []
+    pub reset : (s : Bench M) (c : R .Call) → resets s c ≡ true → OrderFrom (next s c)
+    pub new : OrderFrom (record { fn = M .new; notes = R .atFirst })

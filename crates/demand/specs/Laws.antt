@@ -1,4 +1,4 @@
--- What the third demand needs of a machine: what each call does to five views of the state, in terms of what is seen of it.
+-- What the third demand needs of a machine: what each call does to six views of the state, in terms of what is seen of it.
 use mathlib.Core.Path.{_≡_}
 use mathlib.Core.Logic.{_⊎_}
 use mathlib.Core.Bool.{Bool, true, false, not, _&&_}
@@ -16,6 +16,8 @@ pub record View (T : Terms) : Type 0 where
   -- a ticket waits, and for which tags
   pub waiting : Ticket → Bool
   pub waitsFor : Ticket → ℕ → Bool
+  -- whose Invalidate Requests were accepted
+  pub agent : Option ℕ
 
 module _ {T : Terms} where
   -- the call's completion closes the open request o of tag t
@@ -25,7 +27,7 @@ module _ {T : Terms} where
   ends t (some (INV i a)) o = false
   ends t (some (DRAIN n)) o = false
 
-  -- the call brings data that give e, for a Translation Request that is not stale
+  -- the call brings data that grant e, for a Translation Request that is not stale
   abbrev pub fills : View T → Option (Taken T) → T .Entry → Bool
   fills v none e = false
   fills v (some (CPL t none)) e = false
@@ -33,10 +35,10 @@ module _ {T : Terms} where
   fills v (some (INV i a)) e = false
   fills v (some (DRAIN n)) e = false
 
-  -- nothing that is given for the open request overlaps a
+  -- nothing that is granted to the open request overlaps a
   abbrev pub Apart : T .Area → Option (Pending T) → Type 0
   Apart a none = Unit {0}
-  Apart a (some (translation q n)) = (k : ℕ) (d : T .Data) (e : T .Entry) → T .gives q k d e ≡ true → T .overlaps a e ≡ false
+  Apart a (some (translation q n)) = (k : ℕ) (d : T .Data) (e : T .Entry) → T .grants q k d e ≡ true → T .overlaps a e ≡ false
   Apart a (some (fetch x b n)) = Unit {0}
 
 -- what a call of which x is seen does
@@ -52,6 +54,9 @@ pub record Step {T : Terms} (tags : ℕ) (v w : View T) (x : Seen T) : Type 0 wh
   pub waitsFor : (i : Ticket) (t : ℕ) → w .waiting i ≡ true
       → w .waitsFor i t ≡ given (accepts i (x .took)) (λ a. isOpen (readIn a (v .opens t))) (not (ends t (x .took) (v .opens t)) && v .waitsFor i t)
   pub carried : (i : Ticket) → completes i (x .sent) ≡ (drains i (x .took) && (v .waiting i && noneBelow tags (v .waitsFor i)))
+  -- the agent: the one who sent the request, and no other later
+  pub first : (i : Ticket) (a : T .Area) → accepts i (x .took) ≡ some a → w .agent ≡ some (i .agent)
+  pub lasts : (g : ℕ) → v .agent ≡ some g → w .agent ≡ some g
   -- an accepted Invalidate Request
   pub notYet : (i : Ticket) (a : T .Area) → accepts i (x .took) ≡ some a → v .waiting i ≡ false
   pub dropped : (i : Ticket) (a : T .Area) → accepts i (x .took) ≡ some a → (j : ℕ) (e : T .Entry) → w .held j ≡ some e → T .overlaps a e ≡ false

@@ -9,7 +9,7 @@ use native.Mathlib.Nat.{zero-add}
 use native.Mathlib.Omega.{arith}
 use borrow.Author.Tests.{eqb-true, eqb-false}
 use lib.Dec.{eqb, leb}
-use Rattle.demand.specs.Demand.{Terms, Ticket, Taken, CPL, INV, DRAIN, Sent, TR, MEM, IC, Seen, Pending, translation, fetch, given, noneBelow, isOpen, leaves, onTaken, onSent, openAt, remains, readIn, uses, accepts, drains, completes, requests, completions, older, waits, gave, brings, Observer, Machine, Bench, next, seen, resets, after, history, Unbroken, CameFrom, Arrived, Completed, OnlyNewEntries, NoOldRead, Demand3, Order}
+use Rattle.demand.specs.Demand.{Terms, Ticket, Taken, CPL, INV, DRAIN, Sent, TR, READ, IC, Seen, Pending, translation, fetch, given, noneBelow, isOpen, leaves, onTaken, onSent, openAt, remains, readIn, uses, accepts, drains, completes, requests, completions, older, waits, gave, brings, Observer, Machine, Bench, next, packet, seen, resets, after, history, Unbroken, CameFrom, Arrived, Completed, OnlyNewEntries, NoOldRead, OrderFrom, Order}
 use Rattle.lemmas.specs.Cases.{byCases, and-both}
 use Rattle.lemmas.specs.Bools.{no-tf, no-some, cond-same}
 use Rattle.demand.specs.Laws.{View, Step, ends, fills, Apart}
@@ -40,6 +40,9 @@ drain-bits true true = refl
 drain-bits true false = refl
 drain-bits false true = refl
 drain-bits false false = refl
+
+some-one : {a b : ℕ} → _≡_ {A = Option ℕ} (some a) (some b) → a ≡ b
+some-one e = cc
 
 -- ---- open requests
 
@@ -84,13 +87,13 @@ module _ {T : Terms} where
   sent-other : (t : ℕ) (k : Option (Sent T)) (o : Option (Pending T)) → uses t k ≡ false → onSent t k o ≡ o
   sent-other t none o e = refl
   sent-other t (some (TR u q)) o e = rw e refl
-  sent-other t (some (MEM u x b)) o e = rw e refl
+  sent-other t (some (READ u x b)) o e = rw e refl
   sent-other t (some (IC g v)) o e = refl
 
   sent-new : (t : ℕ) (k : Option (Sent T)) (o p : Option (Pending T)) → uses t k ≡ true → onSent t k o ≡ onSent t k p
   sent-new t none o p e = no-tf (sym e)
   sent-new t (some (TR u q)) o p e = rw e refl
-  sent-new t (some (MEM u x b)) o p e = rw e refl
+  sent-new t (some (READ u x b)) o p e = rw e refl
   sent-new t (some (IC g v)) o p e = no-tf (sym e)
 
   read-is : (a : T .Area) (o : Option (Pending T)) → isOpen (readIn a o) ≡ true → readIn a o ≡ o
@@ -138,6 +141,7 @@ module _ {T : Terms} (tags : ℕ) where
     pub older : (i : Ticket) (t : ℕ) → v .waiting i ≡ true → older i t h ≡ cond (v .waitsFor i t) (v .opens t) none
     pub noted : (i : Ticket) (t : ℕ) → v .waiting i ≡ true → v .waitsFor i t ≡ true → isOpen (v .opens t) ≡ true
     pub counts : (i : Ticket) → requests i h ≡ completions i h + cond (waits tags i h) 1 0
+    pub agent : (i : Ticket) → 0 < requests i h → v .agent ≡ some (i .agent)
 
   module _ (v w : View T) (x : Seen T) (q : Step tags v w x) where
     -- a tag that is open is not sent again
@@ -197,6 +201,13 @@ module _ {T : Terms} (tags : ℕ) where
           go (some a) n = let z : waits tags i h ≡ false = R .waiting i ∙ q .notYet i a n in rw z (omega (arith, rw z at (R .counts i)))
           go none n = omega (arith, R .counts i, drain-bits (drain i) (waits tags i h))
 
+      told-agent : (i : Ticket) → 0 < requests i (x ∷ h) → w .agent ≡ some (i .agent)
+      told-agent i more = go (accepts i (x .took)) refl more
+        where
+          go : (o : Option (T .Area)) → accepts i (x .took) ≡ o → 0 < given o (λ a. 1) 0 + requests i h → w .agent ≡ some (i .agent)
+          go (some a) n m = q .first i a n
+          go none n m = q .lasts (i .agent) (R .agent i (omega (arith, m)))
+
       pub told : Told w (x ∷ h)
       unfolding drain
       told = record {
@@ -207,6 +218,7 @@ module _ {T : Terms} (tags : ℕ) where
         older = told-older;
         noted = told-noted;
         counts = told-counts;
+        agent = told-agent;
       }
 
   -- An Invalidate Request of ticket i and area a was accepted; old t is the overlapping translated read of tag t that was then open. h was seen since.
@@ -308,8 +320,11 @@ pub record Lawful {T : Terms} {R : Observer T} (M : Machine R) : Type 1 where
   pub Ok : Bench M → Type 0
   pub keeps : (s : Bench M) (c : R .Call) → resets M s c ≡ false → Ok s → Ok (next M s c)
   pub law : (s : Bench M) (c : R .Call) → resets M s c ≡ false → Ok s → Step (R .tags) (view s) (view (next M s c)) (seen M s c)
+  pub legible : (s : Bench M) (c : R .Call) → resets M s c ≡ false → Ok s → R .isPacket (packet M s c) ≡ true
+  pub apart : (s : Bench M) (c : R .Call) → resets M s c ≡ false → Ok s → (i : Ticket) (a : T .Area) → accepts i (seen M s c .took) ≡ some a → packet M s c ≡ []
+  pub silent : (s : Bench M) (c : R .Call) → resets M s c ≡ true → packet M s c ≡ []
   pub reset : (s : Bench M) (c : R .Call) → resets M s c ≡ true → Ok (next M s c) × Blank (view (next M s c))
-  pub new : Ok (record { fn = M .new; notes = R .noted }) × Blank (view (record { fn = M .new; notes = R .noted }))
+  pub new : Ok (record { fn = M .new; notes = R .atFirst }) × Blank (view (record { fn = M .new; notes = R .atFirst }))
 
 -- one of the calls cs brought the entry
 module _ {T : Terms} {R : Observer T} (M : Machine R) where
@@ -365,6 +380,7 @@ module _ {T : Terms} {R : Observer T} (M : Machine R) (L : Lawful M) where
       older = λ i t e. no-tf (sym e ∙ start-ok .1 .waiting i);
       noted = λ i t e f. no-tf (sym e ∙ start-ok .1 .waiting i);
       counts = λ i. refl;
+      agent = λ i h. absurd (omega (arith, h));
     }
 
     pub told-run : (cs : List (R .Call)) → Unbroken M s cs → Told (R .tags) (L .view (after M s cs)) (history M s cs)
@@ -411,14 +427,20 @@ module _ {T : Terms} {R : Observer T} (M : Machine R) (L : Lawful M) where
     no-old-read before c since i a z t = byCases (isOpen (remains t (history M (after M s (c ∷ before)) since) (readIn a (openAt t (history M s before)))))
         (λ o. absurd (omega (arith, held-back before c since i a (z .arrived) t o, z .sent))) (λ o. shut _ o)
 
-    pub demand3 : Demand3 M s
-    demand3 = record {
+    one-agent : (cs : List (R .Call)) → Unbroken M s cs → (i k : Ticket) → 0 < requests i (history M s cs) → 0 < requests k (history M s cs) → i .agent ≡ k .agent
+    one-agent cs u i k m n = some-one (sym (told-run cs u .agent i m) ∙ told-run cs u .agent k n)
+
+    pub order-from : OrderFrom M s
+    order-from = record {
       entries = λ before c since i a z. new-entries before c since i a (z .arrived);
       reads = no-old-read;
       counts = λ cs u i. told-run cs u .counts i;
+      agent = one-agent;
       sooner = new-entries;
       tags = λ cs c u t e. (effect s cs c (start-ok .0) u .unused t e .0, told-run cs (u .1) .opens t ∙ effect s cs c (start-ok .0) u .unused t e .1);
+      legible = λ cs c u. L .legible (after M s cs) c (u .0) (ok-run s cs (start-ok .0) (u .1));
+      apart = λ cs c u. L .apart (after M s cs) c (u .0) (ok-run s cs (start-ok .0) (u .1));
     }
 
   pub order : Order M
-  order = record { reset = λ s c e. demand3 (next M s c) (L .reset s c e); new = demand3 _ (L .new) }
+  order = record { silent = L .silent; reset = λ s c e. order-from (next M s c) (L .reset s c e); new = order-from _ (L .new) }

@@ -1,4 +1,4 @@
--- Wrong cards, each refused by demand 3 alone, on a run that the checker computes. Each is the card but for what its name says.
+-- Wrong cards, each refused by demand 3 alone, on a run that the checker computes. Each is the card but for what is said of it.
 use mathlib.Core.Path.{_≡_, refl, sym}
 use mathlib.Core.Bool.{Bool, true, false, cond, _||_}
 use mathlib.Core.List.{List, [], _∷_, map}
@@ -9,7 +9,10 @@ use lib.Dec.{lit<}
 use lib.ListN.{set}
 use Rattle.packet.specs.declared.Tag.{Tag}
 use Rattle.packet.specs.declared.Access.the-variants.{Read as Fetches}
-use Rattle.packet.specs.Numbers.{gives}
+use Rattle.packet.specs.declared.Body.{Body}
+use Rattle.packet.specs.declared.Body.the-variants.{Tr, Mem, Cpl, Inv, Ic, Prq, Prs}
+use Rattle.packet.specs.declared.Packet.{Packet}
+use Rattle.packet.specs.Numbers.{Said, gives, number}
 use Rattle.packet.specs.Frames.{frameOf}
 use Rattle.packet.specs.Forms.{choose}
 use Rattle.packet.specs.Kinds.{bodyIn, shaped, allowedBody, withinBody, loadOf, formOf, framed}
@@ -45,18 +48,18 @@ use Rattle.tags.specs.declared.Open.the-variants.{Free, Ask as Asking, Read as 
 use Rattle.tags.specs.declared.Place.{Place}
 use Rattle.tags.specs.Tags.{holding}
 use Rattle.state.specs.declared.Function.{Function}
-use Rattle.state.specs.declared.Agent.the-variants.{Known}
-use Rattle.state.specs.State.{fresh, rcbOf, withTables, withPlace}
+use Rattle.state.specs.declared.Agent.the-variants.{Unknown, Known}
+use Rattle.state.specs.State.{fresh, rcbOf, remade, withTables, withPlace}
 use Rattle.state.specs.Answers.{Result, done, carries, payloadLast}
 use Rattle.accesses.specs.Access.{memoryOf}
 use Rattle.drains.specs.Drain.{completionFrom, readyOf}
-use Rattle.card.specs.declared.Command.the-variants.{Ask}
+use Rattle.card.specs.declared.Command.the-variants.{Reset, Ask}
 use Rattle.card.specs.Call.{step}
 use Rattle.lemmas.specs.Bools.{no-tf, no-some}
-use Rattle.demand.specs.Demand.{Taken, CPL, INV, DRAIN, Machine, Completed, Order, after}
+use Rattle.demand.specs.Demand.{given, Taken, CPL, INV, DRAIN, Machine, Bench, Completed, Order, after}
 use Rattle.demand.specs.Theorem.{broughtIn, brought}
-use Rattle.keeps.specs.Demands.{Call, Cached, terms, callTaken, observer, heldIn}
-use Rattle.impostors.specs.Runs.{simply, enable, drain, ask, read, granted, grantedLate, firstPart, bothParts, request, three, page}
+use Rattle.keeps.specs.Demands.{Call, Cached, terms, isReset, callTaken, observer, heldIn}
+use Rattle.impostors.specs.Runs.{simply, enable, drain, ask, read, granted, grantedLate, firstPart, bothParts, elsewhere, request, another, three, four-of-another, page}
 
 -- the card with another step
 abbrev cardBy : (Function → Call → Result) → Machine observer
@@ -81,7 +84,7 @@ by (some (INV i a)) x y z o = y
 by (some (DRAIN n)) x y z o = z
 
 abbrev brings : Call → Option (Taken terms)
-brings c = callTaken 0 (c .command) (c .bytes)
+brings c = callTaken (record { id = 0; stu = 0 }) (c .command) (c .bytes)
 
 abbrev withState : Result → Function → Result
 withState r f = record { state = f; says = r .says; sent = r .sent; buffer = r .buffer }
@@ -95,20 +98,29 @@ withBuffer r b = record { state = r .state; says = r .says; sent = r .sent; buff
 abbrev keeper : Function → Call → Result
 keeper f c = let r = honest f c in by (brings c) r (withState r (withTables (r .state) (f .cache) (r .state .places))) r r
 
--- it leaves Translation Requests live
-abbrev lively : Function → Call → Result
-lively f c = let r = honest f c in by (brings c) r (withState r (withTables (r .state) (r .state .cache) (f .places))) r r
+-- an Invalidate Request leaves the tags otherwise than it should
+abbrev marking : (Open → Open) → Function → Call → Result
+marking mark f c = let r = honest f c in by (brings c) r (withState r (withTables (r .state) (r .state .cache) (map (λ (p : Place). holding (mark (p .held))) (r .state .places)))) r r
 
+-- it leaves Translation Requests live
+abbrev revived : Open → Open
+revived Free = Free
+revived (Asking q) = Asking (record { address = q .address; further = q .further; stale = false; size = q .size; whole = q .whole; due = q .due })
+revived (Reading x) = Reading x
+
+abbrev lively : Function → Call → Result
+lively = marking revived
+
+-- it waits for no read
 abbrev unnoted : Open → Open
 unnoted Free = Free
 unnoted (Asking q) = Asking q
 unnoted (Reading x) = Reading (record { address = x .address; bytes = x .bytes; due = x .due; translated = x .translated; itags = 0 })
 
--- it waits for no read
 abbrev hasty : Function → Call → Result
-hasty f c = let r = honest f c in by (brings c) r (withState r (withTables (r .state) (r .state .cache) (map (λ (p : Place). holding (unnoted (p .held))) (r .state .places)))) r r
+hasty = marking unnoted
 
--- it calls a read ended after its first part
+-- it calls a read ended after any data for its tag
 abbrev endedIn : Function → Result → Tag → Open → Result
 endedIn f r t Free = r
 endedIn f r t (Asking q) = r
@@ -144,11 +156,62 @@ astray f c = let r = honest f c in by (brings c) r r (withBuffer r (bytesOf (com
 abbrev again : Function → Call → Result
 again f c = let r = honest f c in by (brings c) r r r (withBuffer r (set (r .buffer) 6 0))
 
--- it reads on its own account when it is enabled
+-- it reads on its own account, whenever a call brings none of these
 abbrev curious : Function → Call → Result
 curious f c =
     let r = honest f c in
     by (brings c) r r r (record { state = r .state; says = gives done; sent = 12; buffer = bytesOf (memoryOf 0 (Fetches (record { 0 = 0 })) 1 (record { address = 0x7000; translated = true })) [] })
+
+-- it takes completions for other Functions as its own
+abbrev renamed : Function → ℕ → Function
+renamed f id =
+    record {
+      id = id;
+      stu = f .stu;
+      rcb = f .rcb;
+      enabled = f .enabled;
+      agent = f .agent;
+      waiting = f .waiting;
+      cache = f .cache;
+      places = f .places;
+      pages = f .pages;
+    }
+
+abbrev requesterIn : Body → Option ℕ
+requesterIn (Cpl c) = some (c .requester)
+requesterIn (Tr t) = none
+requesterIn (Mem m) = none
+requesterIn (Inv i) = none
+requesterIn (Ic i) = none
+requesterIn (Prq q) = none
+requesterIn (Prs s) = none
+
+abbrev requester : Said Packet → Option ℕ
+requester (number n) = none
+requester (gives p) = requesterIn (p .body)
+
+abbrev anyones : Function → Call → Result
+anyones f c = given (requester (reading (c .bytes))) (λ id. let r = honest (renamed f id) c in withState r (renamed (r .state) (f .id))) (honest f c)
+
+-- it takes Invalidate Requests from anyone
+abbrev obliging : Function → Call → Result
+obliging f c = by (brings c) (honest f c) (honest (remade f (f .enabled) Unknown (f .waiting) (f .cache) (f .places) (f .pages)) c) (honest f c) (honest f c)
+
+-- one read more: to 10 0000h, translated, with tag 0, whatever the call
+abbrev parting : Result → Result
+parting r = record { state = r .state; says = r .says; sent = 12; buffer = bytesOf (memoryOf 0 (Fetches (record { 0 = 0 })) 1 (record { address = 0x10_0000; translated = true })) [] }
+
+-- it sends that when it accepts an Invalidate Request
+abbrev lastWord : Function → Call → Result
+lastWord f c = let r = honest f c in by (brings c) r (parting r) r r
+
+-- and it sends it when it is reset
+abbrev chatty : Function → Call → Result
+chatty f c = let r = honest f c in cond (isReset (c .command)) (parting r) r
+
+-- what it sends has a byte 7 that no packet has, so that nobody sees a read
+abbrev mumbler : Function → Call → Result
+mumbler f c = let r = honest f c in by (brings c) r r r (withBuffer r (set (r .buffer) 7 0x0E))
 
 -- ---- two that remember more than a Function does
 
@@ -190,14 +253,19 @@ idleCard = oddBy idleMoves (λ x c. cond (x .spent) (c .out) (honest (x .inner) 
 
 -- ---- why they are refused
 
+no-cons : {x : ℕ} {xs : List ℕ} → x ∷ xs ≡ [] → ⊥
+no-cons e = let z : _≡_ {A = ℕ} 0 1 = cc in omega arith
+
 -- newest first: a read of the page is open with tag 0, a Translation Request for it with tag 1
 abbrev warm : List Call
 warm = ask ∷ read ∷ granted ∷ ask ∷ enable ∷ []
 
 -- from a new Function, an overlapping entry was brought by one of the calls since the request
-shown : (M : Machine observer) → Order M → (before : List Call) (c : Call) (since : List Call) → Completed M (record { fn = M .new; notes = 0 }) before c since three page → (j : ℕ) (e : Cached)
-    → M .held (after M (after M (record { fn = M .new; notes = 0 }) (c ∷ before)) since .fn) j ≡ some e → terms .overlaps page e ≡ true
-    → broughtIn M e (after M (record { fn = M .new; notes = 0 }) (c ∷ before)) since ≡ true
+abbrev start : (M : Machine observer) → Bench M
+start M = record { fn = M .new; notes = record { id = 0; stu = 0 } }
+
+shown : (M : Machine observer) → Order M → (before : List Call) (c : Call) (since : List Call) → Completed M (start M) before c since three page → (j : ℕ) (e : Cached)
+    → M .held (after M (after M (start M) (c ∷ before)) since .fn) j ≡ some e → terms .overlaps page e ≡ true → broughtIn M e (after M (start M) (c ∷ before)) since ≡ true
 shown M d before c since z j e p o = brought M j e _ since (d .new .entries before c since three page z j e p o)
 
 -- none of them keeps demand 3
@@ -214,6 +282,11 @@ pub record Refused : Type 1 where
   pub idle : Order idleCard → ⊥
   pub again : Order (cardBy again) → ⊥
   pub curious : Order (cardBy curious) → ⊥
+  pub anyones : Order (cardBy anyones) → ⊥
+  pub obliging : Order (cardBy obliging) → ⊥
+  pub lastWord : Order (cardBy lastWord) → ⊥
+  pub chatty : Order (cardBy chatty) → ⊥
+  pub mumbler : Order (cardBy mumbler) → ⊥
 
 pub refused : Refused
 unfolding frameOf choose bodyIn shaped allowedBody withinBody loadOf formOf framed readForm reading payloadIn wordAt bytesOf writing regionOf roundedOf reachOf runOf movedTo lowestZero sizeOf translationOf firstAt runTo allTo gather translationAt found put unitDropped spanDropped isIn joined without freeTag heldAt placed rangeOf bytesAsked touches snooped allStaled noted onBoundary startsPart secondPart partOf sizeOfAll beginsIn cameOf fitsAt allFit sizeFits judged unitFilled covered unitStep applied sending resetting enabling disabling isBelowTop isAskable asking lookingUp accessing sendingVector fetched unfetched settled translated untranslated completed snoopRange invalidated taken received calling
@@ -231,4 +304,9 @@ refused =
       idle = λ d. let z : _≡_ {A = ℕ} 2 1 = d .new .counts (drain ∷ request ∷ drain ∷ request ∷ []) (refl, (refl, (refl, (refl, tt)))) three in omega arith;
       again = λ d. no-some (sym (d .new .tags (ask ∷ enable ∷ []) ask (refl, (refl, (refl, tt))) 0 refl .1));
       curious = λ d. no-some (sym (d .new .reads (enable ∷ []) request (drain ∷ []) three page (record { arrived = record { unbroken = (refl, (refl, tt)); accepted = refl; goesOn = (refl, tt) }; sent = lit< tt }) 0));
+      anyones = λ d. no-some (sym (d .new .reads warm request (drain ∷ elsewhere ∷ []) three page (record { arrived = record { unbroken = (refl, (refl, (refl, (refl, (refl, (refl, tt)))))); accepted = refl; goesOn = (refl, (refl, tt)) }; sent = lit< tt }) 0));
+      obliging = λ d. let z : _≡_ {A = ℕ} 0x0200 0x0300 = d .new .agent (another ∷ request ∷ []) (refl, (refl, tt)) three four-of-another (lit< tt) (lit< tt) in omega arith;
+      lastWord = λ d. no-cons (d .new .apart [] request (refl, tt) three page refl);
+      chatty = λ d. no-cons (d .silent (start (cardBy chatty)) (simply (Reset (record { id = 0; stu = 0; rcb = 64 })) refl) refl);
+      mumbler = λ d. no-tf (sym (d .new .legible (granted ∷ ask ∷ enable ∷ []) read (refl, (refl, (refl, (refl, tt))))));
     }

@@ -1,4 +1,4 @@
--- A run of the card that the checker computes, in which all that demand 3 speaks of happens.
+-- Two runs of the card that the checker computes, in which all that demand 3 speaks of happens.
 use mathlib.Core.Path.{_≡_, refl}
 use mathlib.Core.Bool.{true, false}
 use mathlib.Core.List.{List, [], _∷_, _++_}
@@ -9,6 +9,7 @@ use lib.ListN.{replicate}
 use Rattle.packet.specs.Frames.{frameOf, four}
 use Rattle.packet.specs.Forms.{choose}
 use Rattle.packet.specs.Kinds.{bodyIn, shaped, allowedBody, withinBody, loadOf, formOf, framed}
+use Rattle.packet.specs.Numbers.{gives, number}
 use Rattle.packet.specs.Reading.{readForm, reading, payloadIn, wordAt}
 use Rattle.packet.specs.Writing.{bytesOf, writing}
 use Rattle.span.specs.declared.Range.{Range}
@@ -26,7 +27,7 @@ use Rattle.tags.specs.Tags.{freeTag, heldAt, placed, rangeOf, bytesAsked, touch
 use Rattle.replies.specs.Fits.{onBoundary, firstPart as startsPart, secondPart, partOf, sizeOfAll, beginsIn, cameOf, fitsAt, allFit, sizeFits, judged}
 use Rattle.replies.specs.Fills.{unitFilled, covered, unitStep, applied}
 use Rattle.state.specs.State.{fresh, rcbOf}
-use Rattle.state.specs.Answers.{sending}
+use Rattle.state.specs.Answers.{sending, done}
 use Rattle.state.specs.Switches.{resetting, enabling, disabling}
 use Rattle.accesses.specs.declared.Way.the-variants.{Read}
 use Rattle.asks.specs.Ask.{isBelowTop, isAskable, asking}
@@ -88,12 +89,22 @@ lastPart = receive (four 0x4A00_0001 ++ four 0x0008_0004 ++ four 4 ++ four 0x556
 abbrev pub bothParts : Call
 bothParts = receive (four 0x4A00_0002 ++ four 0x0008_0008 ++ four 0 ++ four 0x1122_3344 ++ four 0x5566_7788) refl
 
--- an Invalidate Request of ITag 3, from 0200h, for the page at 5000h
+-- the same, for Function 0300h
+abbrev pub elsewhere : Call
+elsewhere = receive (four 0x4A00_0002 ++ four 0x0008_0008 ++ four 0x0300_0000 ++ four 0x1122_3344 ++ four 0x5566_7788) refl
+
+-- an Invalidate Request of ITag 3, from 0200h, for the page at 5000h; and one of ITag 4 from 0300h
 abbrev pub request : Call
 request = receive (four 0x7200_0002 ++ four 0x0200_0301 ++ four 0 ++ four 0 ++ four 0 ++ four 0x5000) refl
 
+abbrev pub another : Call
+another = receive (four 0x7200_0002 ++ four 0x0300_0401 ++ four 0 ++ four 0 ++ four 0 ++ four 0x5000) refl
+
 abbrev pub three : Ticket
 three = record { agent = 0x0200; number = 3 }
+
+abbrev pub four-of-another : Ticket
+four-of-another = record { agent = 0x0300; number = 4 }
 
 abbrev pub page : Range
 page = record { first = 0x5000; last = 0x5FFF }
@@ -105,7 +116,7 @@ wrongReset = simply (Reset (record { id = 1; stu = 99; rcb = 64 })) refl
 -- ---- a run from a new Function, newest call first
 
 abbrev pub begin : Bench card
-begin = record { fn = fresh 0 0 (rcbOf 64); notes = 0 }
+begin = record { fn = fresh 0 0 (rcbOf 64); notes = record { id = 0; stu = 0 } }
 
 -- a read of the page is open with tag 0, a Translation Request for it with tag 1
 abbrev pub warm : List Call
@@ -139,13 +150,15 @@ large = next card begin (simply (Reset (record { id = 0; stu = 1; rcb = 64 })) r
 abbrev pub warmLarge : List Call
 warmLarge = simply (Access (record { way = Read; address = 0x4000; words = 2 })) refl ∷ receive (four 0x4A00_0002 ++ four 0x0008_0008 ++ four 0x0000_0038 ++ four 0 ++ four 0x0010_0803) refl ∷ ask ∷ enable ∷ []
 
--- What is to be seen there, in this order: the read is open; the request is accepted; the first drains send nothing, and the ITag waits; then one completion is sent, and it waits no
--- longer; the old reply brings nothing; the new one brings the new page, in slot 0, and is what it came from; the old read is closed. With units of 8192 bytes the
--- request is for the whole unit: its entry is gone at once, and the read in its lower half holds the completion back until it ends.
+-- What is to be seen there, in this order: the read is open; the request is accepted; the first drains send nothing, the ITag waits, and the same request is refused with 9; then one
+-- completion is sent, it waits no longer, and the request can come again; the old reply brings nothing; the new one brings the new page, in slot 0, and is what it came from; the old
+-- read is closed. With units of 8192 bytes the request is for the whole unit: its entry is gone at once, and the read in its lower half holds the completion back until it ends.
 pub record Happens : Type 0 where
   pub opens : readIn page (openAt 0 (history card begin warm)) ≡ some (fetch true (record { address = some 0x5000; bytes = 8 }) 8)
   pub arrives : accepts three (seen card (after card begin warm) request .took) ≡ some page
   pub holds : (completions three (history card then held) ≡ 0) × (waits 32 three (history card begin (held ++ request ∷ warm)) ≡ true)
+  pub refuses : card .answer (after card begin (held ++ request ∷ warm) .fn) request .says ≡ number 9
+  pub free : card .answer (after card begin (late ++ request ∷ warm) .fn) request .says ≡ gives done
   pub completes : (completions three (history card then late) ≡ 1) × (waits 32 three (history card begin (late ++ request ∷ warm)) ≡ false)
   pub drops : heldIn (then .fn) 0 ≡ none
   pub ignores : heldIn (after card then late .fn) 0 ≡ none
@@ -167,6 +180,8 @@ happens =
       opens = refl;
       arrives = refl;
       holds = (refl, refl);
+      refuses = refl;
+      free = refl;
       completes = (refl, refl);
       drops = refl;
       ignores = refl;

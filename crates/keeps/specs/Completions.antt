@@ -29,7 +29,7 @@ use Rattle.state.specs.declared.Function.{Function}
 use Rattle.lemmas.specs.Bools.{no-tf, no-some, beq-same}
 use Rattle.demand.specs.Demand.{CPL, isOpen, leaves}
 use Rattle.demand.specs.Laws.{Step, fills}
-use Rattle.keeps.specs.Demands.{Cached, Reply, terms, itag, isGiven, isReplied, sameEntry, heldIn}
+use Rattle.keeps.specs.Demands.{Cached, Reply, terms, Noted, itag, isGiven, isReplied, sameEntry, heldIn}
 use Rattle.keeps.specs.Views.{tag, askedBy, pendingOf, liveOf, view, Ok}
 use Rattle.keeps.specs.Placed.{left, at-own, at-other}
 use Rattle.tlp.specs.Words.{base-lt}
@@ -68,7 +68,7 @@ brought-to q stu load x h b =
 
 -- ---- a tag that a completion is for
 
-module _ (stu : ℕ) (f : Function) (o : Ok stu f) (t : Tag) (own : isTag t ≡ true) (b : Open) (is : heldAt (f .places) t ≡ b) where
+module _ (me : Noted) (f : Function) (o : Ok me f) (t : Tag) (own : isTag t ≡ true) (b : Open) (is : heldAt (f .places) t ≡ b) where
   was : (u : Tag) → eqb (u .0) (t .0) ≡ true → heldAt (f .places) u ≡ b
   was u e = let same : u ≡ t = ap (λ (k : ℕ). record { 0 = k }) (eqb-true (u .0) (t .0) e) in rw same is
 
@@ -81,16 +81,18 @@ module _ (stu : ℕ) (f : Function) (o : Ok stu f) (t : Tag) (own : isTag t ≡ 
     left-step d opened lived noted slots =
         record {
           opens = λ u. byCases (eqb u (t .0))
-              (λ e. ap (pendingOf (f .stu)) (at-own stu f o t own after (tag u) e) ∙ opened ∙ sym (rw e (ap (λ (x : Open). leaves d (pendingOf (f .stu) x)) (was (tag u) e))))
-              (λ e. ap (pendingOf (f .stu)) (at-other stu f o t own after (tag u) e) ∙ sym (rw e refl));
+              (λ e. ap (pendingOf (f .stu)) (at-own me f o t own after (tag u) e) ∙ opened ∙ sym (rw e (ap (λ (x : Open). leaves d (pendingOf (f .stu) x)) (was (tag u) e))))
+              (λ e. ap (pendingOf (f .stu)) (at-other me f o t own after (tag u) e) ∙ sym (rw e refl));
           unused = λ u e. no-tf (sym e);
-          live = λ u l. inl (byCases (eqb u (t .0)) (λ e. ap liveOf (was (tag u) e) ∙ lived (sym (ap liveOf (at-own stu f o t own after (tag u) e)) ∙ l)) (λ e. sym (ap liveOf (at-other stu f o t own after (tag u) e)) ∙ l));
+          live = λ u l. inl (byCases (eqb u (t .0)) (λ e. ap liveOf (was (tag u) e) ∙ lived (sym (ap liveOf (at-own me f o t own after (tag u) e)) ∙ l)) (λ e. sym (ap liveOf (at-other me f o t own after (tag u) e)) ∙ l));
           slots = slots;
           waiting = λ i. refl;
           waitsFor = λ i u w. byCases (eqb u (t .0))
-              (λ e. ap (λ (x : Open). isIn (noteOf x) (itag (i .number))) (at-own stu f o t own after (tag u) e) ∙ noted (itag (i .number)) ∙ sym (rw (e, was (tag u) e) (ap (λ (x : Bool). x && isIn (noteOf b) (itag (i .number))) (twice (isOpen (leaves {T = terms} d (pendingOf (f .stu) b)))))))
-              (λ e. ap (λ (x : Open). isIn (noteOf x) (itag (i .number))) (at-other stu f o t own after (tag u) e) ∙ sym (rw e refl));
+              (λ e. ap (λ (x : Open). isIn (noteOf x) (itag (i .number))) (at-own me f o t own after (tag u) e) ∙ noted (itag (i .number)) ∙ sym (rw (e, was (tag u) e) (ap (λ (x : Bool). x && isIn (noteOf b) (itag (i .number))) (twice (isOpen (leaves {T = terms} d (pendingOf (f .stu) b)))))))
+              (λ e. ap (λ (x : Open). isIn (noteOf x) (itag (i .number))) (at-other me f o t own after (tag u) e) ∙ sym (rw e refl));
           carried = λ i. refl;
+          first = λ i a p. no-some p;
+          lasts = λ g e. e;
           notYet = λ i a p. no-some p;
           dropped = λ i a p. no-some p;
           stale = λ i a p. no-some p;

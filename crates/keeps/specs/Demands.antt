@@ -4,11 +4,11 @@
 -- contract of `card::call` says that the code does just that, for every state, call, packet and buffer.
 --
 --   Demand 1 · `Demand1`, proved by `demand-1` in Proved.antt
---   Demand 2 · `Demand2`, proved by `demand-2`
+--   Demand 2 · `Demand2`, proved by `demand-2`; what it says of packets and states is what the definitions say
 --   Demand 3 · `Demand3`, proved by `demand-3`
 use mathlib.Core.Path.{_≡_}
 use mathlib.Core.Logic.{_↔_}
-use mathlib.Core.Bool.{Bool, true, false, cond, _&&_, Bool·beq}
+use mathlib.Core.Bool.{Bool, true, false, not, cond, _&&_, _||_, Bool·beq}
 use mathlib.Core.List.{List}
 use mathlib.Core.Option.{Option, none, some}
 use Prim.Native.Nat.{ℕ, _-_, _*_, _/_, _^_, _≤_}
@@ -28,6 +28,7 @@ use Rattle.packet.specs.declared.Body.the-variants.{Tr, Mem, Cpl, Inv, Ic, Prq,
 use Rattle.packet.specs.declared.InvalidateRequest.{InvalidateRequest}
 use Rattle.packet.specs.declared.Packet.{Packet}
 use Rattle.packet.specs.Numbers.{Said, gives, number}
+use Rattle.packet.specs.Among.{isAmong}
 use Rattle.packet.specs.Forms.{dwordsOf}
 use Rattle.packet.specs.Reading.{reading, payloadIn}
 use Rattle.packet.specs.Writing.{writing, bytesOf}
@@ -49,29 +50,49 @@ use Rattle.snoops.specs.Invalidate.{exponentOf}
 use Rattle.card.specs.declared.Command.{Command}
 use Rattle.card.specs.declared.Command.the-variants.{Reset, Enable, Disable, Ask, Access as Accesses, Receive, Drain, PagesOn, PagesOff, PageRequest}
 use Rattle.card.specs.Call.{step}
+use Rattle.card.specs.Refused.{numbersOf}
 use Rattle.card.specs.Kept.{Sound}
-use Rattle.demand.specs.Demand.{given, Terms, Taken, CPL, INV, DRAIN, Sent, TR, MEM, IC, Observer, Machine, Bench, waits, next, resets, after, history, Unbroken, Order}
+use Rattle.card.proofs.call.Statement.{statement as CallMeetsItsContract}
+use Rattle.demand.specs.Demand.{given, Terms, Taken, CPL, INV, DRAIN, Sent, TR, READ, IC, Observer, Machine, Bench, waits, next, resets, after, history, Unbroken, Order}
 
--- ---- DEMAND 1: a refusal is one of 17 numbers and leaves state and buffer as they were.
--- That nothing traps, overruns or hangs is not said here: it is what a proved function is. No public function has a `requires`, so it holds for all arguments.
+-- ---- DEMAND 1: a refusal is one of 17 numbers, of those on its call's own list, and leaves state and buffer as they were.
+-- That nothing traps, overruns or hangs is not said here: it is what a proved function is. No public function has a `requires`, so it holds for all arguments. When a call is
+-- refused, and with which number first, is what `step` says.
+
+pub record Refusing (f : Function) (c : Command) (bytes out : List ℕ) (n : ℕ) : Type 0 where
+  pub state : step f c bytes out .state ≡ f
+  pub sent : step f c bytes out .sent ≡ 0
+  pub buffer : step f c bytes out .buffer ≡ out
+  pub listed : isAmong n (numbersOf c) ≡ true
+  pub among : (1 ≤ n) × (n ≤ 17)
 
 abbrev pub Demand1 : Type 0
-Demand1 = (f : Function) (c : Command) (bytes out : List ℕ) (n : ℕ) → step f c bytes out .says ≡ number n
-    → ((step f c bytes out .state ≡ f) × (step f c bytes out .sent ≡ 0) × (step f c bytes out .buffer ≡ out)) × ((1 ≤ n) × (n ≤ 17))
+Demand1 = (f : Function) (c : Command) (bytes out : List ℕ) (n : ℕ) → step f c bytes out .says ≡ number n → Refusing f c bytes out n
 
 -- ---- DEMAND 2: packets and states are those of the papers, and no other.
--- That is what the definitions say which the contracts cite: packet/specs (`reading`, `writing`) and card/specs/Call.antt (`step`, and what it leads to). Beside them stands what
--- shows that they fit together: what is written reads as the same packet; what is read can be written, and gives the same bytes but for those that no field names; and every
--- state that calls reach has 32 slots with at most one entry a unit, 32 tags, 32 groups and no more credits in use than were allowed.
+-- That is what the definitions say which the contracts cite: packet/specs (`reading`, `writing`) and card/specs/Call.antt (`step`, and what it leads to); they have to be read. Here
+-- stands that the code of `card::call` meets its contract, which is to do what `step` says, and what shows that the definitions fit together: what is written reads as the same packet;
+-- what is read can be written, and gives the same bytes but for those that no field names; and every state that calls reach has 32 slots with at most one entry a unit, 32 tags, 32
+-- groups and no more credits in use than were allowed.
 
-pub record Demand2 : Type 0 where
+pub record Demand2 : Type 2 where
+  pub code : {M : Type 1} → CallMeetsItsContract M
   pub written : (p : Packet) (payload : List ℕ) (room n : ℕ) → Typed p → writing p (length payload) room ≡ gives n → (reading (bytesOf p payload) ≡ gives p) × (payloadIn (bytesOf p payload) ≡ payload)
   pub read : (b : List ℕ) (p : Packet) → Bytes b → reading b ≡ gives p → (writing p (length (payloadIn b)) (length b) ≡ gives (length b)) × (bytesOf p (payloadIn b) ≡ normal b)
   pub starts : (id stu : ℕ) (rcb : Rcb) → Sound (fresh id stu rcb)
   pub keeps : (f : Function) (c : Command) (bytes out : List ℕ) → Sound f → Sound (step f c bytes out .state)
 
 -- ---- DEMAND 3: once a completion is sent nothing old is cached in its range and no old read is open, and the completions add up.
--- The demand itself, for any machine, is demand/specs/Demand.antt. Here is what it is stated of: what is seen of a call on the card, what its cache holds, and what overlaps.
+-- The demand itself, for any machine, is demand/specs/Demand.antt; its words there are
+--
+--   each overlapping entry came from a Translation Request sent after the arrival     `entries`, from the completion on; `sooner`, from the arrival on
+--   and every overlapping translated read of before the arrival has ended             `reads`
+--   for each ITag, requests accepted are completions sent, and one more if it waits   `counts` and `agent`
+--   it waits until an unrefused drain call comes with those reads closed              `waits`; and, below, `NineWhileWaiting`
+--   from one accepted reset to the next                                               `Order` and `Unbroken`
+--
+-- and `tags`, `legible`, `apart` and `silent` say that nothing that was sent is overlooked. Here is what it is stated of: what is seen of a call on the card, what its cache
+-- holds, and what overlaps. As there, lists of calls stand newest first.
 
 -- ---- what packets speak of
 
@@ -104,23 +125,23 @@ sameEntry x y =
 abbrev pub isGranted : Translation → ℕ → Entry → Bool
 isGranted t e x = opens t && sameEntry x (entryOf t e (x .unit))
 
--- One of the payload's translations grants the entry: the one over the entry's unit, counted from the region of the first byte asked for, after those that
--- came before. All have the size of the payload's first.
+-- One of the payload's translations grants the entry: the one over the entry's unit, counted from the region of the first byte asked for, after the
+-- regions that came in an earlier packet. All have the size of the payload's first.
 abbrev pub isGiven : ℕ → ℕ → List ℕ → Entry → Bool
-isGiven first before load x =
+isGiven first regions load x =
     let e = exponentIn (translationAt load 0 .size) in
     let k = regionOver first e (x .unit) in
-    leb before k && (ltb (k - before) (length load / 8) && isGranted (translationAt load (k - before)) e x)
+    leb regions k && (ltb (k - regions) (length load / 8) && isGranted (translationAt load (k - regions)) e x)
 
--- the unit of the entry is one of those asked for, and the reply grants it
+-- the unit of the entry is one of those asked for, and the reply, after so many bytes of an earlier packet, grants it
 abbrev pub isReplied : Asked → ℕ → Reply → Cached → Bool
-isReplied q before d x = eqb (x .stu) (q .stu) && (isWithin (regionOf (x .entry .unit) (unitExponent (q .stu))) (q .range) && isGiven (q .range .first) (before / 8) (d .load) (x .entry))
+isReplied q came d x = eqb (x .stu) (q .stu) && (isWithin (regionOf (x .entry .unit) (unitExponent (q .stu))) (q .range) && isGiven (q .range .first) (came / 8) (d .load) (x .entry))
 
 abbrev pub terms : Terms
 terms =
     record {
       Area = Range;
-      Bytes = Wanted;
+      Read = Wanted;
       Ask = Asked;
       Data = Reply;
       Entry = Cached;
@@ -129,7 +150,7 @@ terms =
       wanted = λ b. b .bytes;
       size = λ d. length (d .load);
       isLast = λ d. eqb (d .count) (length (d .load));
-      gives = isReplied;
+      grants = isReplied;
     }
 
 -- ---- what is seen of a call
@@ -160,7 +181,7 @@ pub record Answered : Type 0 where
   pub says : Said Word
   pub sent : ℕ
 
-abbrev pub isRefused : Said Word → Bool
+abbrev pub isRefused : {A : Type 0} → Said A → Bool
 isRefused (gives w) = false
 isRefused (number n) = true
 
@@ -176,18 +197,22 @@ isReset (PagesOn n) = false
 isReset PagesOff = false
 isReset (PageRequest q) = false
 
--- the STU in force after a call that is not refused
-abbrev pub stuAfter : ℕ → Command → ℕ
-stuAfter stu (Reset a) = a .stu
-stuAfter stu Enable = stu
-stuAfter stu Disable = stu
-stuAfter stu (Ask a) = stu
-stuAfter stu (Accesses a) = stu
-stuAfter stu Receive = stu
-stuAfter stu Drain = stu
-stuAfter stu (PagesOn n) = stu
-stuAfter stu PagesOff = stu
-stuAfter stu (PageRequest q) = stu
+-- what the bench notes of the last accepted reset: the ID and the STU that it gave the Function
+pub record Noted : Type 0 where
+  pub id : ℕ
+  pub stu : ℕ
+
+abbrev pub notedAfter : Noted → Command → Noted
+notedAfter me (Reset a) = record { id = a .id; stu = a .stu }
+notedAfter me Enable = me
+notedAfter me Disable = me
+notedAfter me (Ask a) = me
+notedAfter me (Accesses a) = me
+notedAfter me Receive = me
+notedAfter me Drain = me
+notedAfter me (PagesOn n) = me
+notedAfter me PagesOff = me
+notedAfter me (PageRequest q) = me
 
 -- the address that an access is given
 abbrev pub addressIn : Command → Option ℕ
@@ -206,32 +231,32 @@ abbrev pub dataIn : Outcome → ℕ → List ℕ → Option Reply
 dataIn (Data words) count load = some (record { count = count; load = load })
 dataIn (Status status) count load = none
 
--- a completion or an Invalidate Request that is received, from whom, with the range rounded up to the unit
-abbrev pub bodyTaken : ℕ → List ℕ → ℕ → Body → Option (Taken terms)
-bodyTaken stu load from (Tr t) = none
-bodyTaken stu load from (Mem m) = none
-bodyTaken stu load from (Cpl c) = some (CPL (c .tag .0) (dataIn (c .outcome) (c .count) load))
-bodyTaken stu load from (Inv i) =
-    some (INV (record { agent = from; number = place (i .itag) }) (roundedOf (i .address) (exponentOf (sizeOf (i .address) (i .sized))) (unitExponent stu)))
-bodyTaken stu load from (Ic i) = none
-bodyTaken stu load from (Prq q) = none
-bodyTaken stu load from (Prs s) = none
+-- a completion for this Function, or an Invalidate Request with its range rounded up to the unit, that is received, and from whom
+abbrev pub bodyTaken : Noted → List ℕ → ℕ → Body → Option (Taken terms)
+bodyTaken me load from (Tr t) = none
+bodyTaken me load from (Mem m) = none
+bodyTaken me load from (Cpl c) = cond (eqb (c .requester) (me .id)) (some (CPL (c .tag .0) (dataIn (c .outcome) (c .count) load))) none
+bodyTaken me load from (Inv i) =
+    some (INV (record { agent = from; number = place (i .itag) }) (roundedOf (i .address) (exponentOf (sizeOf (i .address) (i .sized))) (unitExponent (me .stu))))
+bodyTaken me load from (Ic i) = none
+bodyTaken me load from (Prq q) = none
+bodyTaken me load from (Prs s) = none
 
-abbrev pub packetTaken : ℕ → List ℕ → Said Packet → Option (Taken terms)
-packetTaken stu load (gives p) = bodyTaken stu load (p .head .sender) (p .body)
-packetTaken stu load (number n) = none
+abbrev pub packetTaken : Noted → List ℕ → Said Packet → Option (Taken terms)
+packetTaken me load (gives p) = bodyTaken me load (p .head .sender) (p .body)
+packetTaken me load (number n) = none
 
-abbrev pub callTaken : ℕ → Command → List ℕ → Option (Taken terms)
-callTaken stu (Reset a) bytes = none
-callTaken stu Enable bytes = none
-callTaken stu Disable bytes = none
-callTaken stu (Ask a) bytes = none
-callTaken stu (Accesses a) bytes = none
-callTaken stu Receive bytes = packetTaken stu (payloadIn bytes) (reading bytes)
-callTaken stu Drain bytes = some (DRAIN (λ i. true))
-callTaken stu (PagesOn n) bytes = none
-callTaken stu PagesOff bytes = none
-callTaken stu (PageRequest q) bytes = none
+abbrev pub callTaken : Noted → Command → List ℕ → Option (Taken terms)
+callTaken me (Reset a) bytes = none
+callTaken me Enable bytes = none
+callTaken me Disable bytes = none
+callTaken me (Ask a) bytes = none
+callTaken me (Accesses a) bytes = none
+callTaken me Receive bytes = packetTaken me (payloadIn bytes) (reading bytes)
+callTaken me Drain bytes = some (DRAIN (λ i. true))
+callTaken me (PagesOn n) bytes = none
+callTaken me PagesOff bytes = none
+callTaken me (PageRequest q) bytes = none
 
 -- the ITag of a number; a vector has 32
 abbrev pub itag : ℕ → ITag
@@ -242,7 +267,7 @@ isListed v k = ltb k 32 && isIn v (itag k)
 
 -- a Translation Request, a read or an Invalidate Completion that is sent
 abbrev pub accessSent : Option ℕ → ℕ → Bool → Access → Option (Sent terms)
-accessSent address words translated (Read t) = some (MEM (t .0) translated (record { address = address; bytes = 4 * dwordsOf words }))
+accessSent address words translated (Read t) = some (READ (t .0) translated (record { address = address; bytes = 4 * dwordsOf words }))
 accessSent address words translated Write = none
 
 abbrev pub bodySent : ℕ → Command → Body → Option (Sent terms)
@@ -258,20 +283,25 @@ abbrev pub packetSent : ℕ → Command → Said Packet → Option (Sent terms)
 packetSent stu c (gives p) = bodySent stu c (p .body)
 packetSent stu c (number n) = none
 
--- Of a call is seen its command, the bytes that it was given and those that it sent, whether it was refused, and the STU of the last reset.
+-- bytes that read as a packet, or none at all
+abbrev pub isPacket : List ℕ → Bool
+isPacket bytes = eqb (length bytes) 0 || not (isRefused (reading bytes))
+
+-- Of a call is seen its command, the bytes that it was given and those that it sent, whether it was refused, and the ID and STU of the last reset.
 abbrev pub observer : Observer terms
 observer =
     record {
       Call = Call;
       Answer = Answered;
-      Notes = ℕ;
+      Notes = Noted;
       refused = λ a. isRefused (a .says);
-      length = λ a. a .sent;
+      reported = λ a. a .sent;
       isReset = λ c. isReset (c .command);
-      took = λ stu c. callTaken stu (c .command) (c .bytes);
-      sent = λ stu c p. packetSent stu (c .command) (reading p);
-      note = λ stu c p. stuAfter stu (c .command);
-      noted = 0;
+      took = λ me c. callTaken me (c .command) (c .bytes);
+      sent = λ me c p. packetSent (me .stu) (c .command) (reading p);
+      note = λ me c p. notedAfter me (c .command);
+      atFirst = record { id = 0; stu = 0 };
+      isPacket = isPacket;
       tags = 32;
     }
 
@@ -291,14 +321,15 @@ card =
       held = heldIn;
     }
 
--- After any calls that hold no accepted reset: an Invalidate Request for the Function, whatever its range, is refused with 9 exactly where its ITag waits, read from the calls.
+-- After any calls that hold no accepted reset: an Invalidate Request for the Function, whatever its range, is refused with 9 exactly where its ITag waits, read from the calls
+-- alone.
 abbrev pub NineWhileWaiting : Bench card → Type 0
 NineWhileWaiting begin = (calls : List Call) → Unbroken card begin calls → (bytes out : List ℕ) (p : Packet) (i : InvalidateRequest)
-    → reading bytes ≡ gives p → p .body ≡ Inv i → i .device ≡ after card begin calls .fn .id
+    → reading bytes ≡ gives p → p .body ≡ Inv i → i .device ≡ after card begin calls .notes .id
     → (step (after card begin calls .fn) Receive bytes out .says ≡ number 9) ↔ (waits 32 (record { agent = p .head .sender; number = place (i .itag) }) (history card begin calls) ≡ true)
 
 -- From every state on which a reset is accepted, and from a new Function: `Order` is demand/specs/Demand.antt's.
 pub record Demand3 : Type 0 where
   pub order : Order card
   pub nine : (s : Bench card) (c : Call) → resets card s c ≡ true → NineWhileWaiting (next card s c)
-  pub nineNew : NineWhileWaiting (record { fn = fresh 0 0 (rcbOf 64); notes = 0 })
+  pub nineNew : NineWhileWaiting (record { fn = fresh 0 0 (rcbOf 64); notes = record { id = 0; stu = 0 } })

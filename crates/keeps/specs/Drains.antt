@@ -32,7 +32,7 @@ use Rattle.demand.specs.Demand.{Ticket, noneBelow, DRAIN, IC}
 use Rattle.demand.specs.Laws.{Step}
 use Rattle.demand.specs.Theorem.{none-not}
 use Rattle.tlp.specs.Words.{areBytes}
-use Rattle.keeps.specs.Demands.{isTyped, Call, itag, isListed}
+use Rattle.keeps.specs.Demands.{isTyped, Call, Noted, itag, isListed}
 use Rattle.keeps.specs.Views.{tag, isAgent, view, Ok, Good, good-plain, good-send}
 
 none-all : (n : ℕ) (f : ℕ → Bool) → ((t : ℕ) → t < n → f t ≡ false) → noneBelow n f ≡ true
@@ -79,7 +79,7 @@ stays true true false n = refl
 stays true false w n = refl
 stays false l w n = refl
 
-module _ (stu : ℕ) (f : Function) (o : Ok stu f) (bytes out : List ℕ) (ty : isTyped Drain ≡ true) (octets : areBytes bytes ≡ true) where
+module _ (me : Noted) (f : Function) (o : Ok me f) (bytes out : List ℕ) (ty : isTyped Drain ≡ true) (octets : areBytes bytes ≡ true) where
   abbrev drain-call : Call
   drain-call = record { command = Drain; bytes = bytes; out = out; typed = ty; octets = octets }
 
@@ -92,11 +92,12 @@ module _ (stu : ℕ) (f : Function) (o : Ok stu f) (bytes out : List ℕ) (ty : 
   left-in : (i : ITag) → isIn (left .waiting) i ≡ (isIn (f .waiting) i && not (isIn (f .waiting) i && not (isIn (noted (f .places)) i)))
   left-in i = in-without (f .waiting) (readyOf f) i ∙ ap (λ (r : Bool). isIn (f .waiting) i && not r) (ready-in i)
 
-  left-ok : Ok stu left
+  left-ok : Ok me left
   unfolding without
   left-ok =
       record {
         unit = o .unit;
+        own = o .own;
         id = o .id;
         agent = o .agent;
         slots = o .slots;
@@ -127,6 +128,8 @@ module _ (stu : ℕ) (f : Function) (o : Ok stu f) (bytes out : List ℕ) (ty : 
         waitsFor = λ i t e. refl;
         carried = λ i. sym (ap (λ (x : Bool). view f .waiting i && x) (waits-for-none i) ∙ sym (carries (isAgent (f .agent) (i .agent)) (ltb (i .number) 32) (isIn (f .waiting) (itag (i .number))) (isIn (noted (f .places)) (itag (i .number))))
             ∙ rw (← ready-in (itag (i .number)), z, in-none (itag (i .number)), and-false (ltb (i .number) 32)) (and-false (isAgent (f .agent) (i .agent))));
+        first = λ i a p. no-some p;
+        lasts = λ g e. e;
         notYet = λ i a p. no-some p;
         dropped = λ i a p. no-some p;
         stale = λ i a p. no-some p;
@@ -143,6 +146,8 @@ module _ (stu : ℕ) (f : Function) (o : Ok stu f) (bytes out : List ℕ) (ty : 
         waiting = λ i. rw (left-in (itag (i .number)), ready-in (itag (i .number))) (stays-by (f .agent) refl i);
         waitsFor = λ i t e. refl;
         carried = λ i. rw (ready-in (itag (i .number)), waits-for-none i) (carries-by (f .agent) refl i);
+        first = λ i a p. no-some p;
+        lasts = λ g e. e;
         notYet = λ i a p. no-some p;
         dropped = λ i a p. no-some p;
         stale = λ i a p. no-some p;
@@ -159,9 +164,9 @@ module _ (stu : ℕ) (f : Function) (o : Ok stu f) (bytes out : List ℕ) (ty : 
       stays-by Unknown e i = sym (and-false (not (eqb (i .agent) 0 && (ltb (i .number) 32 && (isIn (f .waiting) (itag (i .number)) && not (isIn (noted (f .places)) (itag (i .number))))))))
       stays-by (Known id) e i = stays (eqb (i .agent) id) (ltb (i .number) 32) (isIn (f .waiting) (itag (i .number))) (isIn (noted (f .places)) (itag (i .number)))
 
-  pub good-drain : Does (Good stu f drain-call) (draining f out)
+  pub good-drain : Does (Good me f drain-call) (draining f out)
   unfolding sendingVector without
   good-drain =
       does-case _ (eqb (readyOf f) 0) _ _
-      (λ e. good-plain stu f drain-call _ _ o (idle-step (eqb-true (readyOf f) 0 e)))
-      (λ e. good-send stu f drain-call _ _ (completionFrom (f .id) (f .agent) (readyOf f)) [] (typed-completion (headOf (f .id)) (o .id) _ (o .agent) (omega (arith, o .vector))) left-ok sent-step)
+      (λ e. good-plain me f drain-call _ _ o (idle-step (eqb-true (readyOf f) 0 e)))
+      (λ e. good-send me f drain-call _ _ (completionFrom (f .id) (f .agent) (readyOf f)) [] (typed-completion (headOf (f .id)) (o .id) _ (o .agent) (omega (arith, o .vector))) left-ok (λ i. refl) sent-step)

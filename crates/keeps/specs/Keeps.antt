@@ -1,14 +1,15 @@
 -- The card keeps demand 3.
 use mathlib.Core.Path.{_≡_, refl, sym, ap, _∙_}
 use mathlib.Core.Bool.{Bool, true, false, not, cond, _&&_}
-use mathlib.Core.List.{List}
-use mathlib.Core.Option.{none}
+use mathlib.Core.List.{List, []}
+use mathlib.Core.Option.{none, some}
 use Prim.Native.Nat.{ℕ, _^_, _<_}
 use native.Mathlib.Omega.{arith}
 use lib.Dec.{leb, lit≤}
 use lib.ListN.{take, getD-replicate}
 use borrow.Author.Tests.{ltb-true}
 use Rattle.lemmas.specs.Cases.{byCases, and-both, never-both}
+use Rattle.span.specs.declared.Range.{Range}
 use Rattle.packet.specs.declared.Tag.{Tag}
 use Rattle.packet.specs.Numbers.{Said, gives, number}
 use Rattle.packet.specs.Reading.{reading}
@@ -30,11 +31,11 @@ use Rattle.card.specs.declared.Command.{Command}
 use Rattle.card.specs.declared.Command.the-variants.{Reset, Enable, Disable, Ask as Asks, Access as Accesses, Receive, Drain, PagesOn, PagesOff, PageRequest}
 use Rattle.card.specs.Call.{calling, step}
 use Rattle.lemmas.specs.Bools.{no-tf}
-use Rattle.demand.specs.Demand.{Ticket, waits, Bench, resets, after, history, Unbroken, Order}
+use Rattle.demand.specs.Demand.{Ticket, accepts, waits, Bench, resets, after, history, Unbroken, Order}
 use Rattle.demand.specs.Laws.{Step}
 use Rattle.demand.specs.Theorem.{Blank, Lawful, ok-run, told-run, order}
 use Rattle.tlp.specs.Words.{areBytes}
-use Rattle.keeps.specs.Demands.{isTyped, Call, isRefused, isReset, stuAfter, callTaken, packetSent, card}
+use Rattle.keeps.specs.Demands.{isTyped, Call, isRefused, isReset, Noted, notedAfter, callTaken, packetSent, isPacket, card}
 use Rattle.keeps.specs.Views.{tag, pendingOf, view, Ok, Good, quiet}
 use Rattle.keeps.specs.Sends.{good-enable, good-disable, good-on, good-off, good-ask, good-access, good-page}
 use Rattle.keeps.specs.Drains.{good-drain}
@@ -42,9 +43,9 @@ use Rattle.keeps.specs.Receives.{good-receive}
 
 -- ---- one call
 
-module _ (stu : ℕ) (f : Function) (o : Ok stu f) where
+module _ (me : Noted) (f : Function) (o : Ok me f) where
   -- a reset that is not accepted is refused
-  refused-reset : (a : Resetting) (c : Call) (out : List ℕ) → isRefused (ended f out (resetting (a .id) (a .stu) (a .rcb)) .says) ≡ true → Does (Good stu f c) (resetting (a .id) (a .stu) (a .rcb))
+  refused-reset : (a : Resetting) (c : Call) (out : List ℕ) → isRefused (ended f out (resetting (a .id) (a .stu) (a .rcb)) .says) ≡ true → Does (Good me f c) (resetting (a .id) (a .stu) (a .rcb))
   unfolding resetting
   refused-reset a c out r =
       does-case _ (leb (a .stu) 31) _ _
@@ -52,35 +53,37 @@ module _ (stu : ℕ) (f : Function) (o : Ok stu f) where
       (λ e. does-number _ 12)
 
   good : (x : Command) (bytes out : List ℕ) (ty : isTyped x ≡ true) (are : areBytes bytes ≡ true) → (not (isRefused (step f x bytes out .says)) && isReset x) ≡ false
-      → Does (Good stu f (record { command = x; bytes = bytes; out = out; typed = ty; octets = are })) (calling f x bytes out)
+      → Does (Good me f (record { command = x; bytes = bytes; out = out; typed = ty; octets = are })) (calling f x bytes out)
   unfolding calling
   good (Reset a) bytes out ty are u = refused-reset a _ out (was (isRefused (ended f out (resetting (a .id) (a .stu) (a .rcb)) .says)) u)
     where
       was : (b : Bool) → (not b && true) ≡ false → b ≡ true
       was true e = refl
       was false e = no-tf e
-  good Enable bytes out ty are u = good-enable stu f o bytes out are ty
-  good Disable bytes out ty are u = good-disable stu f o bytes out are ty
-  good (Asks a) bytes out ty are u = good-ask stu f o a bytes out ty are
-  good (Accesses a) bytes out ty are u = good-access stu f o a bytes out ty are
-  good Receive bytes out ty are u = good-receive stu f o bytes out ty are
-  good Drain bytes out ty are u = good-drain stu f o bytes out ty are
-  good (PagesOn n) bytes out ty are u = good-on stu f o bytes out are n ty (f .pages .interface)
-  good PagesOff bytes out ty are u = good-off stu f o bytes out are ty (f .pages .interface)
-  good (PageRequest q) bytes out ty are u = good-page stu f o q bytes out ty are (f .pages .interface)
+  good Enable bytes out ty are u = good-enable me f o bytes out are ty
+  good Disable bytes out ty are u = good-disable me f o bytes out are ty
+  good (Asks a) bytes out ty are u = good-ask me f o a bytes out ty are
+  good (Accesses a) bytes out ty are u = good-access me f o a bytes out ty are
+  good Receive bytes out ty are u = good-receive me f o bytes out ty are
+  good Drain bytes out ty are u = good-drain me f o bytes out ty are
+  good (PagesOn n) bytes out ty are u = good-on me f o bytes out are n ty (f .pages .interface)
+  good PagesOff bytes out ty are u = good-off me f o bytes out are ty (f .pages .interface)
+  good (PageRequest q) bytes out ty are u = good-page me f o q bytes out ty are (f .pages .interface)
 
   -- what a call leaves, and what is seen of it; a refused one leaves all as it was, and shows nothing
   pub record Done (c : Call) (r : Result) : Type 0 where
-    pub ok : Ok stu (r .state)
+    pub ok : Ok me (r .state)
     pub step : Step 32 (view f) (view (r .state))
         (record {
-          took = cond (isRefused (r .says)) none (callTaken stu (c .command) (c .bytes));
-          sent = packetSent stu (c .command) (reading (take (r .sent) (r .buffer)));
+          took = cond (isRefused (r .says)) none (callTaken me (c .command) (c .bytes));
+          sent = packetSent (me .stu) (c .command) (reading (take (r .sent) (r .buffer)));
         })
+    pub legible : isPacket (take (r .sent) (r .buffer)) ≡ true
+    pub apart : (i : Ticket) (a : Range) → accepts i (cond (isRefused (r .says)) none (callTaken me (c .command) (c .bytes))) ≡ some a → take (r .sent) (r .buffer) ≡ []
 
-  done : (c : Call) (s : Said Deed) → Does (Good stu f c) s → Done c (ended f (c .out) s)
-  done c (gives d) h = let g = h .deed d refl in record { ok = g .ok; step = g .step }
-  done c (number n) h = record { ok = o; step = rw nothing-reads (quiet (view f)) }
+  done : (c : Call) (s : Said Deed) → Does (Good me f c) s → Done c (ended f (c .out) s)
+  done c (gives d) h = let g = h .deed d refl in record { ok = g .ok; step = g .step; legible = g .legible; apart = g .apart }
+  done c (number n) h = record { ok = o; step = rw nothing-reads (quiet (view f)); legible = refl; apart = λ i a e. refl }
 
 -- ---- a Function that is reset, or new
 
@@ -88,10 +91,11 @@ fresh-held : (t : Tag) → heldAt emptyPlaces t ≡ Free
 unfolding heldAt
 fresh-held t = byCases (isTag t) (λ u. rw (u, getD-replicate 32 (t .0) (holding Free) (holding Free) (ltb-true (t .0) 32 u))) (λ u. rw u)
 
-pub fresh-ok : (id stu : ℕ) (rcb : Rcb) → id < 65536 → Ok stu (fresh id stu rcb)
+pub fresh-ok : (id stu : ℕ) (rcb : Rcb) → id < 65536 → Ok (record { id = id; stu = stu }) (fresh id stu rcb)
 fresh-ok id stu rcb h =
     record {
       unit = refl;
+      own = refl;
       id = h;
       agent = lit≤ tt;
       slots = empty-long 0;
@@ -109,38 +113,51 @@ fresh-blank id stu rcb = record { opens = λ t. ap (pendingOf stu) (fresh-held (
 -- ---- every run
 
 -- only an accepted reset changes the notes
-same-stu : (r : Bool) (x : Command) (stu : ℕ) → (not r && isReset x) ≡ false → cond r stu (stuAfter stu x) ≡ stu
-same-stu true x stu e = refl
-same-stu false (Reset a) stu e = no-tf e
-same-stu false Enable stu e = refl
-same-stu false Disable stu e = refl
-same-stu false (Asks a) stu e = refl
-same-stu false (Accesses a) stu e = refl
-same-stu false Receive stu e = refl
-same-stu false Drain stu e = refl
-same-stu false (PagesOn n) stu e = refl
-same-stu false PagesOff stu e = refl
-same-stu false (PageRequest q) stu e = refl
+same-notes : (r : Bool) (x : Command) (me : Noted) → (not r && isReset x) ≡ false → cond r me (notedAfter me x) ≡ me
+same-notes true x me e = refl
+same-notes false (Reset a) me e = no-tf e
+same-notes false Enable me e = refl
+same-notes false Disable me e = refl
+same-notes false (Asks a) me e = refl
+same-notes false (Accesses a) me e = refl
+same-notes false Receive me e = refl
+same-notes false Drain me e = refl
+same-notes false (PagesOn n) me e = refl
+same-notes false PagesOff me e = refl
+same-notes false (PageRequest q) me e = refl
 
 after-call : (s : Bench card) (c : Call) → resets card s c ≡ false → (o : Ok (s .notes) (s .fn)) → Done (s .notes) (s .fn) o c (step (s .fn) (c .command) (c .bytes) (c .out))
 after-call s c u o = done (s .notes) (s .fn) o c (calling (s .fn) (c .command) (c .bytes) (c .out)) (good (s .notes) (s .fn) o (c .command) (c .bytes) (c .out) (c .typed) (c .octets) u)
 
--- an accepted reset leaves a fresh Function
-after-reset : (f : Function) (stu : ℕ) (x : Command) (bytes out : List ℕ) → isTyped x ≡ true → not (isRefused (step f x bytes out .says)) ≡ true → isReset x ≡ true
-    → Ok (cond (isRefused (step f x bytes out .says)) stu (stuAfter stu x)) (step f x bytes out .state) × Blank (view (step f x bytes out .state))
+-- an accepted reset leaves a fresh Function, and sends nothing
+pub record Afresh (me : Noted) (r : Result) : Type 0 where
+  pub ok : Ok me (r .state)
+  pub blank : Blank (view (r .state))
+  pub silent : take (r .sent) (r .buffer) ≡ []
+
+after-reset : (f : Function) (me : Noted) (x : Command) (bytes out : List ℕ) → isTyped x ≡ true → not (isRefused (step f x bytes out .says)) ≡ true → isReset x ≡ true
+    → Afresh (cond (isRefused (step f x bytes out .says)) me (notedAfter me x)) (step f x bytes out)
 unfolding calling resetting
-after-reset f stu (Reset a) bytes out ty e r = byCases (leb (a .stu) 31)
-    (λ g. byCases (isRcb (a .rcb)) (λ h. rw (g, h) (fresh-ok (a .id) (a .stu) (rcbOf (a .rcb)) (ltb-true (a .id) (2 ^ 16) ty), fresh-blank (a .id) (a .stu) (rcbOf (a .rcb)))) (λ h. no-tf (sym (rw (g, h) at e))))
+after-reset f me (Reset a) bytes out ty e r = byCases (leb (a .stu) 31)
+    (λ g. byCases (isRcb (a .rcb))
+    (λ h. rw (g, h) (record { ok = fresh-ok (a .id) (a .stu) (rcbOf (a .rcb)) (ltb-true (a .id) (2 ^ 16) ty); blank = fresh-blank (a .id) (a .stu) (rcbOf (a .rcb)); silent = refl }))
+    (λ h. no-tf (sym (rw (g, h) at e))))
     (λ g. no-tf (sym (rw g at e)))
-after-reset f stu Enable bytes out ty e r = no-tf (sym r)
-after-reset f stu Disable bytes out ty e r = no-tf (sym r)
-after-reset f stu (Asks a) bytes out ty e r = no-tf (sym r)
-after-reset f stu (Accesses a) bytes out ty e r = no-tf (sym r)
-after-reset f stu Receive bytes out ty e r = no-tf (sym r)
-after-reset f stu Drain bytes out ty e r = no-tf (sym r)
-after-reset f stu (PagesOn n) bytes out ty e r = no-tf (sym r)
-after-reset f stu PagesOff bytes out ty e r = no-tf (sym r)
-after-reset f stu (PageRequest q) bytes out ty e r = no-tf (sym r)
+after-reset f me Enable bytes out ty e r = no-tf (sym r)
+after-reset f me Disable bytes out ty e r = no-tf (sym r)
+after-reset f me (Asks a) bytes out ty e r = no-tf (sym r)
+after-reset f me (Accesses a) bytes out ty e r = no-tf (sym r)
+after-reset f me Receive bytes out ty e r = no-tf (sym r)
+after-reset f me Drain bytes out ty e r = no-tf (sym r)
+after-reset f me (PagesOn n) bytes out ty e r = no-tf (sym r)
+after-reset f me PagesOff bytes out ty e r = no-tf (sym r)
+after-reset f me (PageRequest q) bytes out ty e r = no-tf (sym r)
+
+afresh : (s : Bench card) (c : Call) → resets card s c ≡ true
+    → Afresh (cond (isRefused (step (s .fn) (c .command) (c .bytes) (c .out) .says)) (s .notes) (notedAfter (s .notes) (c .command))) (step (s .fn) (c .command) (c .bytes) (c .out))
+afresh s c e =
+    let b = and-both (not (isRefused (step (s .fn) (c .command) (c .bytes) (c .out) .says))) (isReset (c .command)) e in
+    after-reset (s .fn) (s .notes) (c .command) (c .bytes) (c .out) (c .typed) (b .0) (b .1)
 
 pub lawful : Lawful card
 lawful =
@@ -148,9 +165,12 @@ lawful =
       view = λ s. view (s .fn);
       held = λ s j. refl;
       Ok = λ s. Ok (s .notes) (s .fn);
-      keeps = λ s c u o. rw (same-stu (isRefused (step (s .fn) (c .command) (c .bytes) (c .out) .says)) (c .command) (s .notes) u) (after-call s c u o .ok);
+      keeps = λ s c u o. rw (same-notes (isRefused (step (s .fn) (c .command) (c .bytes) (c .out) .says)) (c .command) (s .notes) u) (after-call s c u o .ok);
       law = λ s c u o. after-call s c u o .step;
-      reset = λ s c e. let b = and-both (not (isRefused (step (s .fn) (c .command) (c .bytes) (c .out) .says))) (isReset (c .command)) e in after-reset (s .fn) (s .notes) (c .command) (c .bytes) (c .out) (c .typed) (b .0) (b .1);
+      legible = λ s c u o. after-call s c u o .legible;
+      apart = λ s c u o. after-call s c u o .apart;
+      silent = λ s c e. afresh s c e .silent;
+      reset = λ s c e. (afresh s c e .ok, afresh s c e .blank);
       new = (fresh-ok 0 0 (rcbOf 64) (lit≤ tt), fresh-blank 0 0 (rcbOf 64));
     }
 

@@ -1,5 +1,5 @@
 -- An Invalidate Request is refused with 9 exactly while its ITag waits, read from the calls.
-use mathlib.Core.Path.{_≡_, refl, sym}
+use mathlib.Core.Path.{_≡_, refl, sym, _∙_}
 use mathlib.Core.Logic.{_↔_}
 use mathlib.Core.Bool.{true, false, not, cond, _&&_}
 use mathlib.Core.List.{List}
@@ -22,12 +22,12 @@ use Rattle.card.specs.Call.{calling}
 use Rattle.lemmas.specs.Bools.{no-tf}
 use Rattle.demand.specs.Demand.{Bench, next, resets, after}
 use Rattle.demand.specs.Theorem.{Blank}
-use Rattle.keeps.specs.Demands.{Call, card, isListed, itag, NineWhileWaiting}
+use Rattle.keeps.specs.Demands.{Call, Noted, card, isListed, itag, NineWhileWaiting}
 use Rattle.keeps.specs.Views.{isAgent, view, Ok}
 use Rattle.keeps.specs.Snoops.{place-lt, same-bit}
 use Rattle.keeps.specs.Keeps.{lawful, ran-ok, ran-waits}
 
-module _ (stu : ℕ) (f : Function) (o : Ok stu f) (out : List ℕ) (from : ℕ) (i : InvalidateRequest) where
+module _ (me : Noted) (f : Function) (o : Ok me f) (out : List ℕ) (from : ℕ) (i : InvalidateRequest) where
   listed : isListed (f .waiting) (place (i .itag)) ≡ isIn (f .waiting) (i .itag)
   listed = rw (lt-ltb (place (i .itag)) 32 (place-lt (i .itag))) (same-bit (f .waiting) (i .itag))
 
@@ -48,12 +48,13 @@ module _ (stu : ℕ) (f : Function) (o : Ok stu f) (out : List ℕ) (from : ℕ)
 nine-run : (begin : Bench card) → lawful .Ok begin × Blank (lawful .view begin) → NineWhileWaiting begin
 unfolding calling received taken
 nine-run begin b calls u bytes out p i e is dev =
-    let n = nine (after card begin calls .notes) (after card begin calls .fn) (ran-ok begin b calls u) out (p .head .sender) i in
-    rw (e, is, eq-eqb (i .device) (after card begin calls .fn .id) dev, ran-waits begin b calls u (record { agent = p .head .sender; number = place (i .itag) })) n
+    let o = ran-ok begin b calls u in
+    let n = nine (after card begin calls .notes) (after card begin calls .fn) o out (p .head .sender) i in
+    rw (e, is, eq-eqb (i .device) (after card begin calls .fn .id) (dev ∙ sym (o .own)), ran-waits begin b calls u (record { agent = p .head .sender; number = place (i .itag) })) n
 
 -- from any accepted reset, and from a new Function
 pub nine-while-waiting : (s : Bench card) (c : Call) → resets card s c ≡ true → NineWhileWaiting (next card s c)
 nine-while-waiting s c e = nine-run (next card s c) (lawful .reset s c e)
 
-pub nine-while-waiting-new : NineWhileWaiting (record { fn = fresh 0 0 (rcbOf 64); notes = 0 })
+pub nine-while-waiting-new : NineWhileWaiting (record { fn = fresh 0 0 (rcbOf 64); notes = record { id = 0; stu = 0 } })
 nine-while-waiting-new = nine-run _ (lawful .new)

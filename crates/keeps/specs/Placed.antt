@@ -17,12 +17,13 @@ use Rattle.tags.specs.Tags.{heldAt, placed, isTag, noteOf}
 use Rattle.tags.specs.Laws.{placed-long, held-placed}
 use Rattle.state.specs.declared.Function.{Function}
 use Rattle.state.specs.State.{remade}
+use Rattle.keeps.specs.Demands.{Noted}
 use Rattle.keeps.specs.Views.{Ok}
 
 abbrev pub left : Function → Tag → Bool → Cache → Open → Function
 left f t enabled cache after = remade f enabled (f .agent) (f .waiting) cache (placed (f .places) t after) (f .pages)
 
-module _ (stu : ℕ) (f : Function) (o : Ok stu f) (t : Tag) (own : isTag t ≡ true) (after : Open) where
+module _ (me : Noted) (f : Function) (o : Ok me f) (t : Tag) (own : isTag t ≡ true) (after : Open) where
   at-tag : (u : Tag) → heldAt (placed (f .places) t after) u ≡ cond (eqb (u .0) (t .0)) after (heldAt (f .places) u)
   at-tag u = held-placed (f .places) t after u (o .tags) own
 
@@ -33,10 +34,11 @@ module _ (stu : ℕ) (f : Function) (o : Ok stu f) (t : Tag) (own : isTag t ≡ 
   at-other u e = at-tag u ∙ rw e refl
 
   pub left-ok : (enabled : Bool) (cache : Cache) → length (cache .slots) ≡ 32 → ((j : ℕ) → slotAt (cache .slots) j .to < 18446744073709551616) → ((q : Tr) → after ≡ Ask q → q .due ≡ 0 → q .whole ≡ 0)
-      → ((i : ITag) → isIn (noteOf after) i ≡ true → isIn (f .waiting) i ≡ true) → Ok stu (left f t enabled cache after)
+      → ((i : ITag) → isIn (noteOf after) i ≡ true → isIn (f .waiting) i ≡ true) → Ok me (left f t enabled cache after)
   left-ok enabled cache slots reached begins notes =
       record {
         unit = o .unit;
+        own = o .own;
         id = o .id;
         agent = o .agent;
         slots = slots;

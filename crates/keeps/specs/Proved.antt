@@ -2,18 +2,22 @@
 use Rattle.tlp.specs.Trips.{written-reads, written-payload, read-written, read-writes}
 use native.Mathlib.Omega.{arith}
 use lib.ListN.{length}
-use Rattle.card.specs.Refused.{refused-keeps, numbers}
+use Rattle.card.specs.Refused.{refused-keeps, refused-with, numbers}
 use Rattle.card.specs.Kept.{fresh-sound, sound-kept}
+use Rattle.card.proofs.call.Met.{met}
 use Rattle.keeps.specs.Demands.{Demand1, Demand2, Demand3}
 use Rattle.keeps.specs.Keeps.{keeps-order}
 use Rattle.keeps.specs.Nine.{nine-while-waiting, nine-while-waiting-new}
 
 pub demand-1 : Demand1
-demand-1 f c bytes out n e = (refused-keeps f c bytes out n e, numbers f c bytes out n e)
+demand-1 f c bytes out n e =
+    let same = refused-keeps f c bytes out n e in
+    record { state = same .0; sent = same .1; buffer = same .2; listed = refused-with f c bytes out n e; among = numbers f c bytes out n e }
 
 pub demand-2 : Demand2
 demand-2 =
     record {
+      code = met;
       written = λ p payload room n ty e. (written-reads p payload room n ty e, written-payload p payload room n ty e);
       read = λ b p h e. (read-writes b p (length b) h e (omega arith), read-written b p h e);
       starts = fresh-sound;

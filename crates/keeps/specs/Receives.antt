@@ -57,7 +57,7 @@ use Rattle.lemmas.specs.Bools.{no-tf, no-some}
 use Rattle.demand.specs.Demand.{CPL, leaves, isOpen}
 use Rattle.demand.specs.Laws.{Step, fills}
 use Rattle.tlp.specs.Words.{areBytes}
-use Rattle.keeps.specs.Demands.{Cached, Reply, terms, isTyped, Call, dataIn, bodyTaken, heldIn}
+use Rattle.keeps.specs.Demands.{Cached, Reply, terms, isTyped, Call, Noted, dataIn, bodyTaken, heldIn}
 use Rattle.keeps.specs.Views.{pendingOf, liveOf, view, Ok, Good, good-plain, quiet, no-entry}
 use Rattle.keeps.specs.Sends.{same-ok}
 use Rattle.keeps.specs.Placed.{left, left-ok}
@@ -66,7 +66,7 @@ use Rattle.tlp.specs.Words.{octets, dropped-bytes}
 use Rattle.replies.specs.Parts.{last-whole, off-whole, first-begins, first-fits, last-fits}
 use Rattle.keeps.specs.Completions.{brought-replied, brought-to, left-step}
 
-module _ (stu : ℕ) (f : Function) (o : Ok stu f) (bytes out : List ℕ) (ty : isTyped Receive ≡ true) (are : areBytes bytes ≡ true) (p : Packet) (e : reading bytes ≡ gives p) where
+module _ (me : Noted) (f : Function) (o : Ok me f) (bytes out : List ℕ) (ty : isTyped Receive ≡ true) (are : areBytes bytes ≡ true) (p : Packet) (e : reading bytes ≡ gives p) where
   abbrev receive-call : Call
   receive-call = record { command = Receive; bytes = bytes; out = out; typed = ty; octets = are }
 
@@ -77,11 +77,11 @@ module _ (stu : ℕ) (f : Function) (o : Ok stu f) (bytes out : List ℕ) (ty : 
   from = p .head .sender
 
   module _ (b : Body) (is : p .body ≡ b) where
-    plain : (g : Function) (w : Word) → Ok stu g → Step 32 (view f) (view g) (record { took = bodyTaken stu load from b; sent = none }) → Does (Good stu f receive-call) (plainly g w)
-    plain g w k s = good-plain stu f receive-call g w k (rw (e, is) s)
+    plain : (g : Function) (w : Word) → Ok me g → Step 32 (view f) (view g) (record { took = bodyTaken me load from b; sent = none }) → Does (Good me f receive-call) (plainly g w)
+    plain g w k s = good-plain me f receive-call g w k (rw (e, is) s)
 
   -- ---- completions
-  module _ (c : Completion) (is : p .body ≡ Cpl c) where
+  module _ (c : Completion) (is : p .body ≡ Cpl c) (mine : eqb (c .requester) (me .id) ≡ true) where
     abbrev t : Tag
     t = c .tag
 
@@ -96,14 +96,14 @@ module _ (stu : ℕ) (f : Function) (o : Ok stu f) (bytes out : List ℕ) (ty : 
       -- the cache stays
       same-cache : (d : Option Reply) → dataIn (c .outcome) (c .count) load ≡ d → (enabled : Bool) (after : Open) (w : Word) → pendingOf (f .stu) after ≡ leaves d (pendingOf (f .stu) b) → (liveOf after ≡ true → liveOf b ≡ true)
           → ((q : Tr) → after ≡ Ask q → q .due ≡ 0 → q .whole ≡ 0) → ((i : ITag) → isIn (noteOf after) i ≡ (isOpen (leaves {T = terms} d (pendingOf (f .stu) b)) && isIn (noteOf b) i))
-          → Does (Good stu f receive-call) (plainly (left f t enabled (f .cache) after) w)
+          → Does (Good me f receive-call) (plainly (left f t enabled (f .cache) after) w)
       same-cache d given enabled after w opened lived begins notes =
           plain (Cpl c) is _ w
-          (left-ok stu f o t own after enabled (f .cache) (o .slots) (o .reached) begins (λ i h. o .noted t i (ap (λ (x : Open). isIn (noteOf x) i) holds ∙ and-both (isOpen (leaves {T = terms} d (pendingOf (f .stu) b))) _ (sym (notes i) ∙ h) .1)))
-          (rw given (left-step stu f o t own b holds enabled (f .cache) after d opened lived notes (λ j x h. inl h)))
+          (left-ok me f o t own after enabled (f .cache) (o .slots) (o .reached) begins (λ i h. o .noted t i (ap (λ (x : Open). isIn (noteOf x) i) holds ∙ and-both (isOpen (leaves {T = terms} d (pendingOf (f .stu) b))) _ (sym (notes i) ∙ h) .1)))
+          (rw (mine, given) (left-step me f o t own b holds enabled (f .cache) after d opened lived notes (λ j x h. inl h)))
 
       -- the tag is freed
-      frees : (d : Option Reply) → dataIn (c .outcome) (c .count) load ≡ d → (enabled : Bool) (w : Word) → leaves {T = terms} d (pendingOf (f .stu) b) ≡ none → Does (Good stu f receive-call) (plainly (left f t enabled (f .cache) Free) w)
+      frees : (d : Option Reply) → dataIn (c .outcome) (c .count) load ≡ d → (enabled : Bool) (w : Word) → leaves {T = terms} d (pendingOf (f .stu) b) ≡ none → Does (Good me f receive-call) (plainly (left f t enabled (f .cache) Free) w)
       frees d given enabled w closed =
           same-cache d given enabled Free w (sym closed) (λ l. no-tf (sym l)) (λ q h. let z : _≡_ {A = ℕ} 0 1 = cc in absurd (omega arith))
           (λ i. in-none i ∙ sym (ap (λ (x : Option _). isOpen x && isIn (noteOf b) i) closed))
@@ -113,7 +113,7 @@ module _ (stu : ℕ) (f : Function) (o : Ok stu f) (bytes out : List ℕ) (ty : 
       is-used : heldAt (f .places) t ≡ Free → ⊥
       is-used h = let z : Read r ≡ Free = sym holds ∙ h in let z : _≡_ {A = ℕ} 0 1 = cc in omega arith
 
-      for-read : (x : Outcome) → c .outcome ≡ x → Does (Good stu f receive-call) (completedFor f c load x (Read r))
+      for-read : (x : Outcome) → c .outcome ≡ x → Does (Good me f receive-call) (completedFor f c load x (Read r))
       unfolding fetched unfetched
       for-read (Status status) x =
           does-case _ (eqb status 0) _ _ (λ z. does-number _ 8) (λ z. frees (Read r) holds is-used none (rw x refl) (f .enabled) _ refl)
@@ -152,11 +152,11 @@ module _ (stu : ℕ) (f : Function) (o : Ok stu f) (bytes out : List ℕ) (ty : 
       -- with the translations of a live request applied
       fills-cache : dataIn (c .outcome) (c .count) load ≡ some reply → isLive f q ≡ true → fits q (f .stu) load ≡ true → (after : Open) (w : Word) → pendingOf (f .stu) after ≡ leaves (some reply) (pendingOf (f .stu) (Ask q))
           → (liveOf after ≡ true → liveOf (Ask q) ≡ true) → ((q : Tr) → after ≡ Ask q → q .due ≡ 0 → q .whole ≡ 0) → ((i : ITag) → isIn (noteOf after) i ≡ false)
-          → Does (Good stu f receive-call) (plainly (left f t (f .enabled) filled-cache after) w)
+          → Does (Good me f receive-call) (plainly (left f t (f .enabled) filled-cache after) w)
       fills-cache given live fit after w opened lived begins notes =
           plain (Cpl c) is _ w
-          (left-ok stu f o t (own (Ask q) holds asks-used) after (f .enabled) filled-cache filled-long filled-reached begins (λ i h. absurd (never-both _ h (notes i))))
-          (rw given (left-step stu f o t (own (Ask q) holds asks-used) (Ask q) holds (f .enabled) filled-cache after (some reply) opened lived (λ i. notes i ∙ sym (ap (λ (b : Bool). isOpen (leaves {T = terms} (some reply) (pendingOf (f .stu) (Ask q))) && b) (in-none i) ∙ and-false (isOpen (leaves {T = terms} (some reply) (pendingOf (f .stu) (Ask q)))))) slots))
+          (left-ok me f o t (own (Ask q) holds asks-used) after (f .enabled) filled-cache filled-long filled-reached begins (λ i h. absurd (never-both _ h (notes i))))
+          (rw (mine, given) (left-step me f o t (own (Ask q) holds asks-used) (Ask q) holds (f .enabled) filled-cache after (some reply) opened lived (λ i. notes i ∙ sym (ap (λ (b : Bool). isOpen (leaves {T = terms} (some reply) (pendingOf (f .stu) (Ask q))) && b) (in-none i) ∙ and-false (isOpen (leaves {T = terms} (some reply) (pendingOf (f .stu) (Ask q)))))) slots))
         where
           slots : (j : ℕ) (y : Cached) → cond {A = Option Cached} (slotAt (filled-cache .slots) j .used) (some (record { stu = f .stu; entry = slotAt (filled-cache .slots) j })) none ≡ some y
               → (heldIn f j ≡ some y) ⊎ (fills (view f) (some (CPL (t .0) (some reply))) y ≡ true)
@@ -169,7 +169,7 @@ module _ (stu : ℕ) (f : Function) (o : Ok stu f) (bytes out : List ℕ) (ty : 
               (applied-slot q (f .stu) load (f .cache) (o .slots) j)
 
       -- a first packet of two leaves the rest due; the last, and the only one, leave nothing
-      for-part : dataIn (c .outcome) (c .count) load ≡ some reply → (x : Part) → judged q (f .stu) (f .rcb) (c .count) (c .lower) load ≡ x → Does (Good stu f receive-call) (translatedAs f t q (c .count) load x)
+      for-part : dataIn (c .outcome) (c .count) load ≡ some reply → (x : Part) → judged q (f .stu) (f .rcb) (c .count) (c .lower) load ≡ x → Does (Good me f receive-call) (translatedAs f t q (c .count) load x)
       unfolding settled rangeOf
       for-part given Misfit j = does-number _ 8
       for-part given Off j = frees (Ask q) holds asks-used (some reply) given (f .enabled) _ (rw (eq-eqb (c .count) (length load) (off-whole q (f .stu) (f .rcb) (c .count) (c .lower) load j)))
@@ -188,7 +188,7 @@ module _ (stu : ℕ) (f : Function) (o : Ok stu f) (bytes out : List ℕ) (ty : 
           (λ live. fills-cache given live (first-fits q (f .stu) (f .rcb) (c .count) (c .lower) load j) (Ask (afterFirst q (c .count) load)) _ (rw (half, so-far)) (λ l. l) begins in-none)
           (λ dead. same-cache (Ask q) holds asks-used (some reply) given (f .enabled) (Ask (afterFirst q (c .count) load)) _ (rw (half, so-far)) (λ l. l) begins (λ i. rw (half, in-none i)))
 
-      for-ask : (x : Outcome) → c .outcome ≡ x → Does (Good stu f receive-call) (completedFor f c load x (Ask q))
+      for-ask : (x : Outcome) → c .outcome ≡ x → Does (Good me f receive-call) (completedFor f c load x (Ask q))
       unfolding translated untranslated
       for-ask (Data words) x = for-part (rw x refl) (judged q (f .stu) (f .rcb) (c .count) (c .lower) load) refl
       for-ask (Status status) x =
@@ -197,48 +197,48 @@ module _ (stu : ℕ) (f : Function) (o : Ok stu f) (bytes out : List ℕ) (ty : 
           (λ y. frees (Ask q) holds asks-used none (rw x refl) (f .enabled) _ refl)
           (λ y. frees (Ask q) holds asks-used none (rw x refl) false _ refl))
 
-    completes : Does (Good stu f receive-call) (completed f c load)
+    completes : Does (Good me f receive-call) (completed f c load)
     unfolding completed
     completes = go (heldAt (f .places) t) refl
       where
-        go : (b : Open) → heldAt (f .places) t ≡ b → Does (Good stu f receive-call) (completedFor f c load (c .outcome) b)
+        go : (b : Open) → heldAt (f .places) t ≡ b → Does (Good me f receive-call) (completedFor f c load (c .outcome) b)
         go Free h = does-number _ 7
         go (Ask q) h = for-ask q h (c .outcome) refl
         go (Read r) h = for-read r h (c .outcome) refl
 
   -- ---- Invalidate Requests
-  invalidates : (i : InvalidateRequest) → p .body ≡ Inv i → Does (Good stu f receive-call) (invalidated f from i)
+  invalidates : (i : InvalidateRequest) → p .body ≡ Inv i → Does (Good me f receive-call) (invalidated f from i)
   unfolding invalidated snoopRange
   invalidates i is =
       does-case _ (isOther (f .agent) from) _ _ (λ n. does-number _ 10)
       (λ ours. does-case _ (isIn (f .waiting) (i .itag)) _ _ (λ n. does-number _ 9)
       (λ idle. let short = read-typed bytes p (octets bytes are) e .sender in
-      plain (Inv i) is _ _ (gone-ok stu f o from i short ours idle) (rw (← o .unit) (gone-step stu f o from i short ours idle))))
+      plain (Inv i) is _ _ (gone-ok me f o from i short ours idle) (rw (← o .unit) (gone-step me f o from i short ours idle))))
 
   -- ---- PRG Responses
-  responds : (s : PrgResponse) → p .body ≡ Prs s → (i : Interface) → Does (Good stu f receive-call) (responded f (s .code) (s .index) i)
+  responds : (s : PrgResponse) → p .body ≡ Prs s → (i : Interface) → Does (Good me f receive-call) (responded f (s .code) (s .index) i)
   unfolding respondedOn
   responds s is IsOff = does-number _ 7
   responds s is Stopped = does-number _ 7
   responds s is On =
       does-case _ (leb (s .code) 1) _ _
-      (λ a. does-case _ (isIndex (s .index) && isWaiting (f .pages .groups) (s .index)) _ _ (λ w. plain (Prs s) is _ _ (same-ok stu f o (f .enabled) _) (quiet (view f))) (λ w. does-number _ 7))
-      (λ a. plain (Prs s) is _ _ (same-ok stu f o (f .enabled) _) (quiet (view f)))
+      (λ a. does-case _ (isIndex (s .index) && isWaiting (f .pages .groups) (s .index)) _ _ (λ w. plain (Prs s) is _ _ (same-ok me f o (f .enabled) _) (quiet (view f))) (λ w. does-number _ 7))
+      (λ a. plain (Prs s) is _ _ (same-ok me f o (f .enabled) _) (quiet (view f)))
 
-  takes : (b : Body) → p .body ≡ b → Does (Good stu f receive-call) (taken f from load b)
+  takes : (b : Body) → p .body ≡ b → Does (Good me f receive-call) (taken f from load b)
   unfolding taken
   takes (Translates x) is = does-number _ 2
   takes (Mem x) is = does-number _ 2
-  takes (Cpl c) is = does-case _ (eqb (c .requester) (f .id)) _ _ (λ a. completes c is) (λ a. does-number _ 5)
+  takes (Cpl c) is = does-case _ (eqb (c .requester) (f .id)) _ _ (λ a. completes c is (rw (o .own) at a)) (λ a. does-number _ 5)
   takes (Inv i) is = does-case _ (eqb (i .device) (f .id)) _ _ (λ a. invalidates i is) (λ a. does-number _ 5)
   takes (Ic x) is = does-number _ 2
   takes (Prq x) is = does-number _ 2
   takes (Prs s) is = does-case _ (eqb (s .device) (f .id)) _ _ (λ a. responds s is (f .pages .interface)) (λ a. does-number _ 5)
 
-pub good-receive : (stu : ℕ) (f : Function) → Ok stu f → (bytes out : List ℕ) (ty : isTyped Receive ≡ true) (are : areBytes bytes ≡ true) → Does (Good stu f (record { command = Receive; bytes = bytes; out = out; typed = ty; octets = are })) (received f bytes)
+pub good-receive : (me : Noted) (f : Function) → Ok me f → (bytes out : List ℕ) (ty : isTyped Receive ≡ true) (are : areBytes bytes ≡ true) → Does (Good me f (record { command = Receive; bytes = bytes; out = out; typed = ty; octets = are })) (received f bytes)
 unfolding received
-good-receive stu f o bytes out ty are = go (reading bytes) refl
+good-receive me f o bytes out ty are = go (reading bytes) refl
   where
-    go : (s : Said Packet) → reading bytes ≡ s → Does (Good stu f (record { command = Receive; bytes = bytes; out = out; typed = ty; octets = are })) (takenIf f (payloadIn bytes) s)
-    go (gives p) e = takes stu f o bytes out ty are p e (p .body) refl
+    go : (s : Said Packet) → reading bytes ≡ s → Does (Good me f (record { command = Receive; bytes = bytes; out = out; typed = ty; octets = are })) (takenIf f (payloadIn bytes) s)
+    go (gives p) e = takes me f o bytes out ty are p e (p .body) refl
     go (number n) e = does-number _ n

@@ -49,22 +49,23 @@ use Rattle.card.specs.declared.Accessing.{Accessing}
 use Rattle.card.specs.declared.Command.{Command}
 use Rattle.card.specs.declared.Command.the-variants.{Enable, Disable, Ask as Asks, Access as Accesses, PagesOn, PagesOff, PageRequest as PageRequests}
 use Rattle.lemmas.specs.Bools.{no-tf, no-some}
-use Rattle.demand.specs.Demand.{Ticket, Sent, TR, MEM, Pending, onSent, uses, completes}
+use Rattle.demand.specs.Demand.{Ticket, Sent, TR, READ, Pending, onSent, uses, completes}
 use Rattle.demand.specs.Laws.{Step}
 use Rattle.tlp.specs.Words.{areBytes}
-use Rattle.keeps.specs.Demands.{terms, isTyped, Call, itag}
+use Rattle.keeps.specs.Demands.{terms, isTyped, Call, Noted, itag}
 use Rattle.keeps.specs.Views.{no-entry, tag, pendingOf, liveOf, view, Ok, Good, good-plain, good-send, quiet}
 use Rattle.keeps.specs.Placed.{at-own, at-other, left-ok}
 use Rattle.keeps.specs.Marks.{stale-pending, stale-live, stale-note}
 
 -- ---- nothing but E and the page interface
 
-module _ (stu : ℕ) (f : Function) (o : Ok stu f) where
+module _ (me : Noted) (f : Function) (o : Ok me f) where
   -- the rest of the state is as it was
-  pub same-ok : (enabled : Bool) (p : Pages) → Ok stu (withPages (withEnable f enabled) p)
+  pub same-ok : (enabled : Bool) (p : Pages) → Ok me (withPages (withEnable f enabled) p)
   same-ok enabled p =
       record {
         unit = o .unit;
+        own = o .own;
         id = o .id;
         agent = o .agent;
         slots = o .slots;
@@ -76,35 +77,36 @@ module _ (stu : ℕ) (f : Function) (o : Ok stu f) where
         known = o .known;
       }
 
-module _ (stu : ℕ) (f : Function) (o : Ok stu f) (bytes out : List ℕ) (octets : areBytes bytes ≡ true) where
+module _ (me : Noted) (f : Function) (o : Ok me f) (bytes out : List ℕ) (octets : areBytes bytes ≡ true) where
   abbrev simple : (c : Command) → isTyped c ≡ true → Call
   simple c ty = record { command = c; bytes = bytes; out = out; typed = ty; octets = octets }
 
-  pub good-disable : (ty : isTyped Disable ≡ true) → Does (Good stu f (simple Disable ty)) (disabling f)
+  pub good-disable : (ty : isTyped Disable ≡ true) → Does (Good me f (simple Disable ty)) (disabling f)
   unfolding disabling
-  good-disable ty = good-plain stu f (simple Disable ty) _ _ (same-ok stu f o false (f .pages)) (quiet (view f))
+  good-disable ty = good-plain me f (simple Disable ty) _ _ (same-ok me f o false (f .pages)) (quiet (view f))
 
-  pub good-on : (n : ℕ) (ty : isTyped (PagesOn n) ≡ true) (i : Interface) → Does (Good stu f (simple (PagesOn n) ty)) (switchingOn f n i)
+  pub good-on : (n : ℕ) (ty : isTyped (PagesOn n) ≡ true) (i : Interface) → Does (Good me f (simple (PagesOn n) ty)) (switchingOn f n i)
   unfolding switchingOn
-  good-on n ty Off = does-case _ (isGranted n) _ _ (λ e. good-plain stu f (simple (PagesOn n) ty) _ _ (same-ok stu f o (f .enabled) (switchedOn n)) (quiet (view f))) (λ e. does-number _ 12)
+  good-on n ty Off = does-case _ (isGranted n) _ _ (λ e. good-plain me f (simple (PagesOn n) ty) _ _ (same-ok me f o (f .enabled) (switchedOn n)) (quiet (view f))) (λ e. does-number _ 12)
   good-on n ty On = does-number _ 12
   good-on n ty Stopped = does-number _ 15
 
-  pub good-off : (ty : isTyped PagesOff ≡ true) (i : Interface) → Does (Good stu f (simple PagesOff ty)) (switchingOff f i)
+  pub good-off : (ty : isTyped PagesOff ≡ true) (i : Interface) → Does (Good me f (simple PagesOff ty)) (switchingOff f i)
   unfolding switchingOff
-  good-off ty Off = good-plain stu f (simple PagesOff ty) _ _ o (quiet (view f))
-  good-off ty On = good-plain stu f (simple PagesOff ty) _ _ (same-ok stu f o (f .enabled) _) (quiet (view f))
-  good-off ty Stopped = good-plain stu f (simple PagesOff ty) _ _ o (quiet (view f))
+  good-off ty Off = good-plain me f (simple PagesOff ty) _ _ o (quiet (view f))
+  good-off ty On = good-plain me f (simple PagesOff ty) _ _ (same-ok me f o (f .enabled) _) (quiet (view f))
+  good-off ty Stopped = good-plain me f (simple PagesOff ty) _ _ o (quiet (view f))
 
   -- ---- E set
-  pub good-enable : (ty : isTyped Enable ≡ true) → Does (Good stu f (simple Enable ty)) (enabling f)
+  pub good-enable : (ty : isTyped Enable ≡ true) → Does (Good me f (simple Enable ty)) (enabling f)
   unfolding enabling
   good-enable ty =
       does-case _ (f .enabled) _ _
-      (λ e. good-plain stu f (simple Enable ty) _ _ o (quiet (view f)))
-      (λ e. good-plain stu f (simple Enable ty) _ _
+      (λ e. good-plain me f (simple Enable ty) _ _ o (quiet (view f)))
+      (λ e. good-plain me f (simple Enable ty) _ _
       (record {
         unit = o .unit;
+        own = o .own;
         id = o .id;
         agent = o .agent;
         slots = empty-long (f .cache .hand);
@@ -123,6 +125,8 @@ module _ (stu : ℕ) (f : Function) (o : Ok stu f) (bytes out : List ℕ) (octet
         waiting = λ i. refl;
         waitsFor = λ i t e. ap (λ (n : ℕ). isIn n (itag (i .number))) (ap noteOf (staled-held (f .places) (tag t)) ∙ stale-note (heldAt (f .places) (tag t)));
         carried = λ i. refl;
+        first = λ i a p. no-some p;
+        lasts = λ g e. e;
         notYet = λ i a p. no-some p;
         dropped = λ i a p. no-some p;
         stale = λ i a p. no-some p;
@@ -138,25 +142,27 @@ module _ (stu : ℕ) (f : Function) (o : Ok stu f) (bytes out : List ℕ) (octet
 
 -- ---- a tag opened
 
-module _ (stu : ℕ) (f : Function) (o : Ok stu f) (t : Tag) (own : isTag t ≡ true) (b : Open) where
-  opened-ok : ((q : Tr) → b ≡ Ask q → q .due ≡ 0 → q .whole ≡ 0) → ((i : ITag) → isIn (noteOf b) i ≡ false) → Ok stu (withPlace f t b)
-  opened-ok begins notes = left-ok stu f o t own b (f .enabled) (f .cache) (o .slots) (o .reached) begins (λ i e. absurd (never-both _ e (notes i)))
+module _ (me : Noted) (f : Function) (o : Ok me f) (t : Tag) (own : isTag t ≡ true) (b : Open) where
+  opened-ok : ((q : Tr) → b ≡ Ask q → q .due ≡ 0 → q .whole ≡ 0) → ((i : ITag) → isIn (noteOf b) i ≡ false) → Ok me (withPlace f t b)
+  opened-ok begins notes = left-ok me f o t own b (f .enabled) (f .cache) (o .slots) (o .reached) begins (λ i e. absurd (never-both _ e (notes i)))
 
   -- a request goes out on a tag that was free
   pub open-step : heldAt (f .places) t ≡ Free → (x : Sent terms) → ((u : ℕ) → uses u (some x) ≡ eqb u (t .0)) → ((u : ℕ) (p : Option (Pending terms)) → onSent u (some x) p ≡ cond (eqb u (t .0)) (pendingOf (f .stu) b) p)
       → ((i : Ticket) → completes i (some x) ≡ false) → ((i : ITag) → isIn (noteOf b) i ≡ false) → Step 32 (view f) (view (withPlace f t b)) (record { took = none; sent = some x })
   open-step free x used opened carries unnoted =
       record {
-        opens = λ u. byCases (eqb u (t .0)) (λ e. ap (pendingOf (f .stu)) (at-own stu f o t own b (tag u) e) ∙ sym (opened u (pendingOf (f .stu) (heldAt (f .places) (tag u))) ∙ rw e refl))
-            (λ e. ap (pendingOf (f .stu)) (at-other stu f o t own b (tag u) e) ∙ sym (opened u (pendingOf (f .stu) (heldAt (f .places) (tag u))) ∙ rw e refl));
+        opens = λ u. byCases (eqb u (t .0)) (λ e. ap (pendingOf (f .stu)) (at-own me f o t own b (tag u) e) ∙ sym (opened u (pendingOf (f .stu) (heldAt (f .places) (tag u))) ∙ rw e refl))
+            (λ e. ap (pendingOf (f .stu)) (at-other me f o t own b (tag u) e) ∙ sym (opened u (pendingOf (f .stu) (heldAt (f .places) (tag u))) ∙ rw e refl));
         unused = λ u e. let same = eqb-true u (t .0) (sym (used u) ∙ e) in rw same (ltb-true (t .0) 32 own, ap (pendingOf (f .stu)) free);
-        live = λ u l. byCases (eqb u (t .0)) (λ e. inr (used u ∙ e)) (λ e. inl (sym (ap liveOf (at-other stu f o t own b (tag u) e)) ∙ l));
+        live = λ u l. byCases (eqb u (t .0)) (λ e. inr (used u ∙ e)) (λ e. inl (sym (ap liveOf (at-other me f o t own b (tag u) e)) ∙ l));
         slots = λ j e h. inl h;
         waiting = λ i. rw (carries i) refl;
         waitsFor = λ i u w. byCases (eqb u (t .0))
-            (λ e. let same = eqb-true u (t .0) e in ap (λ (z : Open). isIn (noteOf z) (itag (i .number))) (at-own stu f o t own b (tag u) e) ∙ rw (same, free) (unnoted (itag (i .number)) ∙ sym (in-none (itag (i .number)))))
-            (λ e. ap (λ (z : Open). isIn (noteOf z) (itag (i .number))) (at-other stu f o t own b (tag u) e));
+            (λ e. let same = eqb-true u (t .0) e in ap (λ (z : Open). isIn (noteOf z) (itag (i .number))) (at-own me f o t own b (tag u) e) ∙ rw (same, free) (unnoted (itag (i .number)) ∙ sym (in-none (itag (i .number)))))
+            (λ e. ap (λ (z : Open). isIn (noteOf z) (itag (i .number))) (at-other me f o t own b (tag u) e));
         carried = λ i. carries i;
+        first = λ i a p. no-some p;
+        lasts = λ g e. e;
         notYet = λ i a p. no-some p;
         dropped = λ i a p. no-some p;
         stale = λ i a p. no-some p;
@@ -164,14 +170,14 @@ module _ (stu : ℕ) (f : Function) (o : Ok stu f) (t : Tag) (own : isTag t ≡ 
 
 -- ---- ask
 
-module _ (stu : ℕ) (f : Function) (o : Ok stu f) (a : Asking) (bytes out : List ℕ) (ty : isTyped (Asks a) ≡ true) (octets : areBytes bytes ≡ true) where
+module _ (me : Noted) (f : Function) (o : Ok me f) (a : Asking) (bytes out : List ℕ) (ty : isTyped (Asks a) ≡ true) (octets : areBytes bytes ≡ true) where
   abbrev ask-call : Call
   ask-call = record { command = Asks a; bytes = bytes; out = out; typed = ty; octets = octets }
 
   asks-units : (units : ℕ) → 1 ≤ units → dwordsOf (2 * units) / 2 - 1 ≡ units - 1
   asks-units units h = rw (ne-eqb (2 * units) 0 (omega arith)) (omega arith)
 
-  pub good-ask : Does (Good stu f ask-call) (asking f (a .address) (a .units) (a .nowrite) out)
+  pub good-ask : Does (Good me f ask-call) (asking f (a .address) (a .units) (a .nowrite) out)
   unfolding asking rangeOf
   good-ask =
       does-case _ (f .enabled) _ _
@@ -180,11 +186,11 @@ module _ (stu : ℕ) (f : Function) (o : Ok stu f) (a : Asking) (bytes out : Lis
       (λ own. let t = freeTag (f .places) in
       let b = asked (a .address) (a .units - 1) in
       let n = few-units (f .rcb) (f .stu) (a .address) (a .units) few in
-      good-send stu f ask-call _ _ (requestOf (f .id) t (a .address) (a .units) (a .nowrite)) []
+      good-send me f ask-call _ _ (requestOf (f .id) t (a .address) (a .units) (a .nowrite)) []
       (typed-request (headOf (f .id)) (o .id) _ (omega (arith, ltb-true (t .0) 32 own)) (omega (arith, ltb-true (a .address) (2 ^ 64) ty)))
-      (opened-ok stu f o t own b (λ q e d. let z : 0 ≡ q .whole = cc in sym z) in-none)
-      (rw (asks-units (a .units) (n .0), run-low-bits (a .address) (a .units - 1) stu, ← o .unit)
-      (open-step stu f o t own b (free-tag (f .places) (o .tags) own) (TR (t .0) (record { stu = f .stu; range = runOf (a .address) (a .units - 1) (f .stu) })) (λ u. refl) (λ u p. refl) (λ i. refl) in-none)))
+      (opened-ok me f o t own b (λ q e d. let z : 0 ≡ q .whole = cc in sym z) in-none) (λ i. refl)
+      (rw (asks-units (a .units) (n .0), run-low-bits (a .address) (a .units - 1) (me .stu), ← o .unit)
+      (open-step me f o t own b (free-tag (f .places) (o .tags) own) (TR (t .0) (record { stu = f .stu; range = runOf (a .address) (a .units - 1) (f .stu) })) (λ u. refl) (λ u p. refl) (λ i. refl) in-none)))
       (λ e. does-number _ 11))
       (λ e. does-number _ 12))
       (λ e. does-number _ 6)
@@ -196,7 +202,7 @@ pub record Goes (words : ℕ) (at : Target) : Type 0 where
   pub some : 1 ≤ words
   pub inside : at .address < 18446744073709551616
 
-module _ (stu : ℕ) (f : Function) (o : Ok stu f) (a : Accessing) (bytes out : List ℕ) (ty : isTyped (Accesses a) ≡ true) (octets : areBytes bytes ≡ true) where
+module _ (me : Noted) (f : Function) (o : Ok me f) (a : Accessing) (bytes out : List ℕ) (ty : isTyped (Accesses a) ≡ true) (octets : areBytes bytes ≡ true) where
   abbrev access-call : Call
   access-call = record { command = Accesses a; bytes = bytes; out = out; typed = ty; octets = octets }
 
@@ -221,34 +227,34 @@ module _ (stu : ℕ) (f : Function) (o : Ok stu f) (a : Accessing) (bytes out : 
           let same : targetOf (f .stu) (a .address) x ≡ at = cc in
           rw (← same) (byCases (x .u) (λ u. rw u (ltb-true (a .address) (2 ^ 64) ty)) (λ u. rw u (moved-lt (x .to) (a .address) (unitExponent (f .stu)) to)))
 
-  goes-good : (way : Way) (at : Target) → Goes (a .words) at → Does (Good stu f access-call) (going f way at (a .address) (a .words) bytes out)
-  goes-good ToWrite at g = good-send stu f access-call _ _ (memoryOf (f .id) Write (a .words) at) bytes (typed-access (headOf (f .id)) (o .id) _ tt (g .inside)) o (quiet (view f))
+  goes-good : (way : Way) (at : Target) → Goes (a .words) at → Does (Good me f access-call) (going f way at (a .address) (a .words) bytes out)
+  goes-good ToWrite at g = good-send me f access-call _ _ (memoryOf (f .id) Write (a .words) at) bytes (typed-access (headOf (f .id)) (o .id) _ tt (g .inside)) o (λ i. refl) (quiet (view f))
   goes-good ToRead at g =
       does-case _ (isTag (freeTag (f .places))) _ _
       (λ own. let t = freeTag (f .places) in
       let b = fetching (a .address) (4 * a .words) (at .translated) in
-      good-send stu f access-call _ _ (memoryOf (f .id) (Fetches t) (a .words) at) bytes
+      good-send me f access-call _ _ (memoryOf (f .id) (Fetches t) (a .words) at) bytes
       (typed-access (headOf (f .id)) (o .id) _ (omega (arith, ltb-true (t .0) 32 own)) (g .inside))
-      (opened-ok stu f o t own b (λ q e d. let z : _≡_ {A = ℕ} 0 1 = cc in absurd (omega arith)) in-none)
+      (opened-ok me f o t own b (λ q e d. let z : _≡_ {A = ℕ} 0 1 = cc in absurd (omega arith)) in-none) (λ i. refl)
       (rw (ne-eqb (a .words) 0 (omega (arith, g .some)))
-      (open-step stu f o t own b (free-tag (f .places) (o .tags) own) (MEM (t .0) (at .translated) (record { address = some (a .address); bytes = 4 * a .words })) (λ u. refl) (λ u p. refl) (λ i. refl) in-none)))
+      (open-step me f o t own b (free-tag (f .places) (o .tags) own) (READ (t .0) (at .translated) (record { address = some (a .address); bytes = 4 * a .words })) (λ u. refl) (λ u p. refl) (λ i. refl) in-none)))
       (λ e. does-number _ 11)
 
-  pub good-access : Does (Good stu f access-call) (accessing f (a .way) (a .address) (a .words) bytes out)
+  pub good-access : Does (Good me f access-call) (accessing f (a .way) (a .address) (a .words) bytes out)
   unfolding accessing
   good-access = go (lookingUp f (a .way) (a .address) (a .words) (length bytes)) refl
     where
-      go : (s : Said Target) → lookingUp f (a .way) (a .address) (a .words) (length bytes) ≡ s → Does (Good stu f access-call) (goingIf f (a .way) (a .address) (a .words) bytes out s)
+      go : (s : Said Target) → lookingUp f (a .way) (a .address) (a .words) (length bytes) ≡ s → Does (Good me f access-call) (goingIf f (a .way) (a .address) (a .words) bytes out s)
       go (gives at) e = goes-good (a .way) at (goes at e)
       go (number n) e = does-number _ n
 
 -- ---- page requests
 
-module _ (stu : ℕ) (f : Function) (o : Ok stu f) (q : PageRequest) (bytes out : List ℕ) (ty : isTyped (PageRequests q) ≡ true) (octets : areBytes bytes ≡ true) where
+module _ (me : Noted) (f : Function) (o : Ok me f) (q : PageRequest) (bytes out : List ℕ) (ty : isTyped (PageRequests q) ≡ true) (octets : areBytes bytes ≡ true) where
   abbrev page-call : Call
   page-call = record { command = PageRequests q; bytes = bytes; out = out; typed = ty; octets = octets }
 
-  pub good-page : (i : Interface) → Does (Good stu f page-call) (requesting f q out i)
+  pub good-page : (i : Interface) → Does (Good me f page-call) (requesting f q out i)
   unfolding requestingOn
   good-page Off = does-number _ 15
   good-page Stopped = does-number _ 15
@@ -256,5 +262,5 @@ module _ (stu : ℕ) (f : Function) (o : Ok stu f) (q : PageRequest) (bytes out 
       does-case _ (isAsked q) _ _
       (λ e. does-case _ (isWaiting (f .pages .groups) (q .index)) _ _ (λ w. does-number _ 16)
       (λ w. does-case _ (isSpent (f .pages .groups) (f .pages .allocation)) _ _ (λ s. does-number _ 16)
-      (λ s. good-send stu f page-call _ _ (pageOf (f .id) q) [] (typed-page (headOf (f .id)) (o .id) q (ltb-true (q .page) (2 ^ 64) ty)) (same-ok stu f o (f .enabled) (requested (f .pages) q)) (quiet (view f)))))
+      (λ s. good-send me f page-call _ _ (pageOf (f .id) q) [] (typed-page (headOf (f .id)) (o .id) q (ltb-true (q .page) (2 ^ 64) ty)) (same-ok me f o (f .enabled) (requested (f .pages) q)) (λ i. refl) (quiet (view f)))))
       (λ e. does-number _ 12)

@@ -30,8 +30,8 @@ use Rattle.snoops.specs.Invalidate.{snoopRange, isOther, snoopedBy}
 use Rattle.lemmas.specs.Bools.{no-tf, no-some}
 use Rattle.demand.specs.Demand.{Ticket, same, given, INV, isOpen, readIn}
 use Rattle.demand.specs.Laws.{Step}
-use Rattle.keeps.specs.Demands.{Cached, terms, itag, isListed, heldIn}
-use Rattle.keeps.specs.Views.{tag, pendingOf, liveOf, isAgent, view, Ok, no-entry}
+use Rattle.keeps.specs.Demands.{Cached, terms, Noted, itag, isListed, heldIn}
+use Rattle.keeps.specs.Views.{tag, pendingOf, liveOf, agentOf, isAgent, view, Ok, no-entry}
 use Rattle.keeps.specs.Marks.{snoop-pending, snoop-live, snoop-noted, snoop-apart}
 
 -- what a slot holds is its entry, in use
@@ -41,6 +41,10 @@ held-entry stu x e h = go (x .used) refl h
     go : (b : Bool) → x .used ≡ b → cond {A = Option Cached} b (some (record { stu = stu; entry = x })) none ≡ some e → (x .used ≡ true) × (record { stu = stu; entry = x } ≡ e)
     go true u q = (u, cc)
     go false u q = no-some q
+
+not-false : (b : Bool) → not b ≡ false → b ≡ true
+not-false true q = refl
+not-false false q = no-tf q
 
 -- an ITag has five bits
 pub place-lt : (i : ITag) → place i < 32
@@ -53,7 +57,7 @@ pub same-bit : (v : ℕ) (i : ITag) → isIn v (itag (place i)) ≡ isIn v i
 unfolding isIn
 same-bit v i = rw (place-is (place i) (place-lt i))
 
-module _ (stu : ℕ) (f : Function) (o : Ok stu f) (from : ℕ) (i : InvalidateRequest) (short : from < 65536) (ours : isOther (f .agent) from ≡ false) (idle : isIn (f .waiting) (i .itag) ≡ false) where
+module _ (me : Noted) (f : Function) (o : Ok me f) (from : ℕ) (i : InvalidateRequest) (short : from < 65536) (ours : isOther (f .agent) from ≡ false) (idle : isIn (f .waiting) (i .itag) ≡ false) where
   abbrev range : Range
   range = snoopRange (f .stu) i
 
@@ -87,11 +91,12 @@ module _ (stu : ℕ) (f : Function) (o : Ok stu f) (from : ℕ) (i : InvalidateR
           sym w ∙ o .begun t p h (v ∙ d)
       mark (Read r) h e = let z : _≡_ {A = ℕ} 0 1 = cc in absurd (omega arith)
 
-  pub gone-ok : Ok stu gone
+  pub gone-ok : Ok me gone
   unfolding joined
   gone-ok =
       record {
         unit = o .unit;
+        own = o .own;
         id = o .id;
         agent = short;
         slots = span-long (f .stu) range (f .cache .slots) (o .slots);
@@ -115,11 +120,7 @@ module _ (stu : ℕ) (f : Function) (o : Ok stu f) (from : ℕ) (i : InvalidateR
     where
       go : (g : Agent) → f .agent ≡ g → isOther g from ≡ false → isAgent (Known from) (k .agent) ≡ isAgent g (k .agent)
       go Unknown e u = absurd (o .known (itag (k .number)) w e)
-      go (Known id) e u = ap (λ (x : ℕ). eqb (k .agent) x) (sym (eqb-true id from (not-not (eqb id from) u)))
-        where
-          not-not : (b : Bool) → not b ≡ false → b ≡ true
-          not-not true q = refl
-          not-not false q = no-tf q
+      go (Known id) e u = ap (λ (x : ℕ). eqb (k .agent) x) (sym (eqb-true id from (not-false (eqb id from) u)))
 
   -- is k the ticket of this request?
   mine : (k : Ticket) → eqb (k .number) (place (i .itag)) ≡ true → isListed (f .waiting) (k .number) ≡ false
@@ -190,11 +191,20 @@ module _ (stu : ℕ) (f : Function) (o : Ok stu f) (from : ℕ) (i : InvalidateR
         waiting = gone-waiting;
         waitsFor = λ k t e. noted-then k t e;
         carried = λ k. refl;
+        first = λ k z p. ap some (sym (eqb-true (k .agent) from (and-both (eqb (k .agent) from) _ (accepted k z p .0) .0)));
+        lasts = λ g e. known-from g e;
         notYet = λ k z p. rw (mine k (and-both (eqb (k .agent) from) _ (accepted k z p .0) .1)) (and-false (isAgent (f .agent) (k .agent)));
         dropped = λ k z p j e h. rw (← accepted k z p .1, ← held-entry (f .stu) (slotAt (gone .cache .slots) j) e h .1) (span-clear (f .stu) range (f .cache .slots) j);
         stale = λ k z p t l. rw (← accepted k z p .1, at-tag (tag t)) (snoop-apart (f .stu) range (i .itag) (heldAt (f .places) (tag t)) (sym (ap liveOf (at-tag (tag t))) ∙ l));
       }
     where
+      known-from : (g : ℕ) → agentOf (f .agent) ≡ some g → some from ≡ some g
+      known-from g = go (f .agent) ours
+        where
+          go : (a : Agent) → isOther a from ≡ false → agentOf a ≡ some g → some from ≡ some g
+          go Unknown u e = no-some e
+          go (Known id) u e = ap some (sym (eqb-true id from (not-false (eqb id from) u))) ∙ e
+
       kept : (j : ℕ) (e : Cached) → heldIn gone j ≡ some e → heldIn f j ≡ some e
       kept j e h = byCases (touches (f .stu) range (slotAt (f .cache .slots) j))
           (λ u. no-some (sym (no-entry (f .stu) (slotAt (gone .cache .slots) j) (slot-cut j u)) ∙ h))

@@ -1,12 +1,13 @@
 -- The views of the card's state that demand 3 is shown by, and what holds of every state that a run reaches.
-use mathlib.Core.Path.{_≡_, refl, sym}
+use mathlib.Core.Path.{_≡_, refl, sym, _∙_}
 use mathlib.Core.Logic.{inl}
-use mathlib.Core.Bool.{Bool, true, false, not, cond, _&&_}
-use mathlib.Core.List.{List, _++_}
+use mathlib.Core.Bool.{Bool, true, false, not, cond, _&&_, or-true}
+use mathlib.Core.List.{List, [], _++_}
 use mathlib.Core.Option.{Option, none, some}
 use Prim.Native.Nat.{ℕ, _-_, _<_}
 use lib.Dec.{eqb}
 use lib.ListN.{length, take, drop}
+use Rattle.span.specs.declared.Range.{Range}
 use Rattle.packet.specs.declared.ITag.{ITag}
 use Rattle.packet.specs.declared.Tag.{Tag}
 use Rattle.packet.specs.declared.Packet.{Packet}
@@ -30,9 +31,9 @@ use Rattle.state.specs.Answers.{Word, Deed, plainly, sentAs, sending}
 use Rattle.state.specs.Laws.{Does, does-plain, does-number}
 use Rattle.drains.specs.Drain.{agentId}
 use Rattle.lemmas.specs.Bools.{no-tf, no-some}
-use Rattle.demand.specs.Demand.{Sent, Pending, translation, fetch}
+use Rattle.demand.specs.Demand.{Ticket, Sent, Pending, translation, fetch, accepts}
 use Rattle.demand.specs.Laws.{View, Step}
-use Rattle.keeps.specs.Demands.{Asked, Wanted, Cached, terms, Call, itag, isListed, callTaken, packetSent, heldIn}
+use Rattle.keeps.specs.Demands.{Asked, Wanted, Cached, terms, Call, Noted, itag, isListed, callTaken, packetSent, isPacket, heldIn}
 
 -- ---- one tag
 
@@ -60,6 +61,10 @@ liveOf (Read r) = false
 pub no-entry : (stu : ℕ) (x : Entry) → x ≡ nothing → cond {A = Option Cached} (x .used) (some (record { stu = stu; entry = x })) none ≡ none
 no-entry stu x e = rw e
 
+abbrev pub agentOf : Agent → Option ℕ
+agentOf Unknown = none
+agentOf (Known id) = some id
+
 abbrev pub isAgent : Agent → ℕ → Bool
 isAgent Unknown g = false
 isAgent (Known id) g = eqb g id
@@ -72,11 +77,13 @@ view f =
       live = λ t. liveOf (heldAt (f .places) (tag t));
       waiting = λ i. isAgent (f .agent) (i .agent) && isListed (f .waiting) (i .number);
       waitsFor = λ i t. isIn (noteOf (heldAt (f .places) (tag t))) (itag (i .number));
+      agent = agentOf (f .agent);
     }
 
--- what holds of every state that is reached; stu is that of the last reset
-pub record Ok (stu : ℕ) (f : Function) : Type 0 where
-  pub unit : f .stu ≡ stu
+-- what holds of every state that is reached; me is what was noted of the last reset
+pub record Ok (me : Noted) (f : Function) : Type 0 where
+  pub unit : f .stu ≡ me .stu
+  pub own : f .id ≡ me .id
   pub id : f .id < 65536
   pub agent : agentId (f .agent) < 65536
   pub slots : length (f .cache .slots) ≡ 32
@@ -89,36 +96,42 @@ pub record Ok (stu : ℕ) (f : Function) : Type 0 where
   pub noted : (t : Tag) (i : ITag) → isIn (noteOf (heldAt (f .places) t)) i ≡ true → isIn (f .waiting) i ≡ true
   pub known : (i : ITag) → isIn (f .waiting) i ≡ true → f .agent ≡ Unknown → ⊥
 
+-- what a call left of its packet, at the start of the buffer that it was lent
+abbrev pub packetIn : Call → Deed → List ℕ
+packetIn c d = take (d .sent) (d .bytes ++ drop (length (d .bytes)) (c .out))
+
 -- a call that was not refused keeps that, and does to the views what is seen of it
-pub record Good (stu : ℕ) (f : Function) (c : Call) (d : Deed) : Type 0 where
-  pub ok : Ok stu (d .state)
-  pub step : Step 32 (view f) (view (d .state))
-      (record {
-        took = callTaken stu (c .command) (c .bytes);
-        sent = packetSent stu (c .command) (reading (take (d .sent) (d .bytes ++ drop (length (d .bytes)) (c .out))));
-      })
+pub record Good (me : Noted) (f : Function) (c : Call) (d : Deed) : Type 0 where
+  pub ok : Ok me (d .state)
+  pub step : Step 32 (view f) (view (d .state)) (record { took = callTaken me (c .command) (c .bytes); sent = packetSent (me .stu) (c .command) (reading (packetIn c d)) })
+  pub legible : isPacket (packetIn c d) ≡ true
+  pub apart : (i : Ticket) (a : Range) → accepts i (callTaken me (c .command) (c .bytes)) ≡ some a → packetIn c d ≡ []
 
-module _ (stu : ℕ) (f : Function) (c : Call) where
+module _ (me : Noted) (f : Function) (c : Call) where
   abbrev pub Effects : Function → Option (Sent terms) → Type 0
-  Effects g s = Step 32 (view f) (view g) (record { took = callTaken stu (c .command) (c .bytes); sent = s })
+  Effects g s = Step 32 (view f) (view g) (record { took = callTaken me (c .command) (c .bytes); sent = s })
 
-  pub good-plain : (g : Function) (w : Word) → Ok stu g → Effects g none → Does (Good stu f c) (plainly g w)
-  good-plain g w o s = does-plain (Good stu f c) g w (record { ok = o; step = rw nothing-reads s })
+  -- no Invalidate Request is accepted
+  abbrev pub Alone : Type 0
+  Alone = (i : Ticket) → accepts i (callTaken me (c .command) (c .bytes)) ≡ none
+
+  pub good-plain : (g : Function) (w : Word) → Ok me g → Effects g none → Does (Good me f c) (plainly g w)
+  good-plain g w o s = does-plain (Good me f c) g w (record { ok = o; step = rw nothing-reads s; legible = refl; apart = λ i a e. refl })
 
   -- what was sent reads as what it is
-  pub good-send : (g : Function) (w : Word) (p : Packet) (load : List ℕ) → Typed p → Ok stu g → Effects g (packetSent stu (c .command) (gives p)) → Does (Good stu f c) (sending g w p load (c .out))
+  pub good-send : (g : Function) (w : Word) (p : Packet) (load : List ℕ) → Typed p → Ok me g → Alone → Effects g (packetSent (me .stu) (c .command) (gives p)) → Does (Good me f c) (sending g w p load (c .out))
   unfolding sending
-  good-send g w p load ty o s = go (writing p (length load) (length (c .out))) refl
+  good-send g w p load ty o alone s = go (writing p (length load) (length (c .out))) refl
     where
-      go : (r : Said ℕ) → writing p (length load) (length (c .out)) ≡ r → Does (Good stu f c) (sentAs g w (bytesOf p load) r)
-      go (number n) e = does-number (Good stu f c) n
+      go : (r : Said ℕ) → writing p (length load) (length (c .out)) ≡ r → Does (Good me f c) (sentAs g w (bytesOf p load) r)
+      go (number n) e = does-number (Good me f c) n
       go (gives n) e = record { deed = λ d q. let same : record { state = g; word = w; sent = n; bytes = bytesOf p load } ≡ d = cc in rw same at one }
         where
           back : reading (take n (bytesOf p load ++ drop (length (bytesOf p load)) (c .out))) ≡ gives p
           back = rw e at (sent-reads p load (c .out) n ty e)
 
-          one : Good stu f c (record { state = g; word = w; sent = n; bytes = bytesOf p load })
-          one = record { ok = o; step = rw back s }
+          one : Good me f c (record { state = g; word = w; sent = n; bytes = bytesOf p load })
+          one = record { ok = o; step = rw back s; legible = rw back (or-true (eqb (length (take n (bytesOf p load ++ drop (length (bytesOf p load)) (c .out)))) 0)); apart = λ i a h. no-some (sym (alone i) ∙ h) }
 
 -- nothing is taken or sent, and nothing changes
 pub quiet : (v : View terms) → Step 32 v v (record { took = none; sent = none })
@@ -131,6 +144,8 @@ quiet v =
       waiting = λ i. refl;
       waitsFor = λ i t e. refl;
       carried = λ i. refl;
+      first = λ i a p. no-some p;
+      lasts = λ g e. e;
       notYet = λ i a p. no-some p;
       dropped = λ i a p. no-some p;
       stale = λ i a p. no-some p;

@@ -10,6 +10,7 @@ use lib.Dec.{eqb, lit≤}
 use lib.ListN.{length}
 use borrow.Author.Tests.{eqb-true, le-leb, lt-ltb, eq-eqb}
 use Rattle.lemmas.specs.Cases.{byCases}
+use Rattle.span.specs.declared.Range.{Range}
 use Rattle.span.specs.Range.{regionOf, unitExponent, unitBytes, movedTo, isWithin}
 use Rattle.span.specs.Runs.{moved-lt, run-first, run-holds}
 use Rattle.packet.specs.declared.ITag.{ITag}
@@ -22,6 +23,7 @@ use Rattle.tags.specs.declared.Open.{Open}
 use Rattle.tags.specs.declared.Tr.{Tr}
 use Rattle.tags.specs.Itags.{isIn}
 use Rattle.tags.specs.Tags.{heldAt, isTag, rangeOf, noteOf}
+use Rattle.tags.specs.Laws.{range-run}
 use Rattle.replies.specs.Fits.{exponentIn, sizeOfAll, cameOf, fits}
 use Rattle.replies.specs.Fills.{opens, regionOver}
 use Rattle.replies.specs.Laws.{Brought}
@@ -33,7 +35,7 @@ use Rattle.keeps.specs.Demands.{Cached, Reply, terms, Noted, itag, isGiv
 use Rattle.keeps.specs.Views.{tag, askedBy, pendingOf, liveOf, view, Ok}
 use Rattle.keeps.specs.Placed.{left, at-own, at-other}
 use Rattle.tlp.specs.Words.{base-lt}
-use Rattle.replies.specs.Parts.{one-size}
+use Rattle.replies.specs.Parts.{one-size, came-by}
 
 -- ---- what a reply brings is what its bytes give
 
@@ -42,10 +44,9 @@ same-self x = rw (beq-same (x .used), beq-same (x .r), beq-same (x .w), beq-same
 
 module _ (q : Tr) (stu : ℕ) (load : List ℕ) (fit : fits q stu load ≡ true) (x : Entry) (b : Brought q stu load x) where
   in-range : isWithin (regionOf (x .unit) (unitExponent stu)) (rangeOf q stu) ≡ true
-  unfolding rangeOf
   in-range =
-      let at : x .unit ≡ regionOf (q .address) (unitExponent stu) .first + b .unit * unitBytes stu = b .at ∙ ap (λ (n : ℕ). n + b .unit * unitBytes stu) (run-first (q .address) (q .further) stu) in
-      rw at (run-holds (q .address) (q .further) stu (b .unit) (b .among) (rw at at (b .inside .1)))
+      let at : x .unit ≡ regionOf (q .address) (unitExponent stu) .first + b .unit * unitBytes stu = b .at ∙ ap (λ (n : ℕ). n + b .unit * unitBytes stu) (ap (λ (r : Range). r .first) (range-run q stu) ∙ run-first (q .address) (q .further) stu) in
+      rw (range-run q stu, at) (run-holds (q .address) (q .further) stu (b .unit) (b .among) (rw (at, range-run q stu) at (b .inside .1)))
 
   granted : isGiven (rangeOf q stu .first) (cameOf q) load x ≡ true
   granted =
@@ -56,8 +57,7 @@ module _ (q : Tr) (stu : ℕ) (load : List ℕ) (fit : fits q stu load ≡ true)
       (ap (λ (y : Entry). sameEntry x y) (sym (b .given)) ∙ same-self x)
 
   pub brought-replied : (count : ℕ) → isReplied (askedBy stu q) (q .whole - q .due) (record { count = count; load = load }) (record { stu = stu; entry = x }) ≡ true
-  unfolding cameOf
-  brought-replied count = rw (eq-eqb stu stu refl, in-range) granted
+  brought-replied count = rw (eq-eqb stu stu refl, in-range, ← came-by q) granted
 
 -- and its translated address lies in 64 bits
 pub brought-to : (q : Tr) (stu : ℕ) (load : List ℕ) (x : Entry) → Bytes load → Brought q stu load x → x .to < 18446744073709551616

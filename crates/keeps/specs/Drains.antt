@@ -19,7 +19,7 @@ use Rattle.tags.specs.declared.Open.the-variants.{Free, Ask, Read}
 use Rattle.tags.specs.declared.Place.{Place}
 use Rattle.tags.specs.Itags.{isIn, without}
 use Rattle.tags.specs.Tags.{heldAt, isTag, noteOf, noted}
-use Rattle.tags.specs.Laws.{in-none, in-without, noted-exactly, HeldBack}
+use Rattle.tags.specs.Laws.{in-none, in-without, without-le, held-tag, noted-exactly, HeldBack}
 use Rattle.state.specs.declared.Function.{Function}
 use Rattle.state.specs.declared.Agent.{Agent}
 use Rattle.state.specs.declared.Agent.the-variants.{Unknown, Known}
@@ -54,8 +54,7 @@ module _ (places : List Place) (i : ITag) (all : length places ≡ 32) where
   noted-by-read t e = noted-exactly places i all .1 (by-read t e)
 
   a-tag : (h : HeldBack places i) → isTag (h .tag) ≡ true
-  unfolding heldAt
-  a-tag h = byCases (isTag (h .tag)) (λ u. u) (λ u. let free : Free ≡ Read (h .read) = rw u at (h .held) in let z : _≡_ {A = ℕ} 0 1 = cc in absurd (omega arith))
+  a-tag h = held-tag places (h .tag) (λ e. let free : Free ≡ Read (h .read) = sym e ∙ h .held in let z : _≡_ {A = ℕ} 0 1 = cc in omega arith)
 
   -- it waits for none of the 32 exactly where none notes it
   pub none-noted : noneBelow 32 (λ t. isIn (noteOf (heldAt places (tag t))) i) ≡ not (isIn (noted places) i)
@@ -93,7 +92,6 @@ module _ (me : Noted) (f : Function) (o : Ok me f) (bytes out : List ℕ) (ty : 
   left-in i = in-without (f .waiting) (readyOf f) i ∙ ap (λ (r : Bool). isIn (f .waiting) i && not r) (ready-in i)
 
   left-ok : Ok me left
-  unfolding without
   left-ok =
       record {
         unit = o .unit;
@@ -104,7 +102,7 @@ module _ (me : Noted) (f : Function) (o : Ok me f) (bytes out : List ℕ) (ty : 
         reached = o .reached;
         tags = o .tags;
         begun = o .begun;
-        vector = omega (arith, o .vector);
+        vector = omega (arith, o .vector, without-le (f .waiting) (readyOf f));
         noted = λ t i e. left-in i ∙ rw (o .noted t i e, noted-by-read (f .places) i (o .tags) t e);
         known = λ i e. o .known i (and-both (isIn (f .waiting) i) _ (sym (left-in i) ∙ e) .0);
       }
@@ -165,8 +163,8 @@ module _ (me : Noted) (f : Function) (o : Ok me f) (bytes out : List ℕ) (ty : 
       stays-by (Known id) e i = stays (eqb (i .agent) id) (ltb (i .number) 32) (isIn (f .waiting) (itag (i .number))) (isIn (noted (f .places)) (itag (i .number)))
 
   pub good-drain : Does (Good me f drain-call) (draining f out)
-  unfolding sendingVector without
+  unfolding sendingVector
   good-drain =
       does-case _ (eqb (readyOf f) 0) _ _
       (λ e. good-plain me f drain-call _ _ o (idle-step (eqb-true (readyOf f) 0 e)))
-      (λ e. good-send me f drain-call _ _ (completionFrom (f .id) (f .agent) (readyOf f)) [] (typed-completion (headOf (f .id)) (o .id) _ (o .agent) (omega (arith, o .vector))) left-ok (λ i. refl) sent-step)
+      (λ e. good-send me f drain-call _ _ (completionFrom (f .id) (f .agent) (readyOf f)) [] (typed-completion (headOf (f .id)) (o .id) _ (o .agent) (omega (arith, o .vector, without-le (f .waiting) (noted (f .places))))) left-ok (λ i. refl) sent-step)

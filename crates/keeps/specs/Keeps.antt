@@ -6,11 +6,10 @@ use mathlib.Core.Option.{none, some}
 use Prim.Native.Nat.{ℕ, _^_, _<_}
 use native.Mathlib.Omega.{arith}
 use lib.Dec.{leb, lit≤}
-use lib.ListN.{take, getD-replicate}
+use lib.ListN.{take}
 use borrow.Author.Tests.{ltb-true}
 use Rattle.lemmas.specs.Cases.{byCases, and-both, never-both}
 use Rattle.span.specs.declared.Range.{Range}
-use Rattle.packet.specs.declared.Tag.{Tag}
 use Rattle.packet.specs.Numbers.{Said, gives, number}
 use Rattle.packet.specs.Reading.{reading}
 use Rattle.tlp.specs.Laws.{nothing-reads}
@@ -18,8 +17,8 @@ use Rattle.atc.specs.Laws.{empty-long, empty-slot}
 use Rattle.tags.specs.declared.Open.{Open}
 use Rattle.tags.specs.declared.Open.the-variants.{Free, Ask}
 use Rattle.tags.specs.Itags.{isIn}
-use Rattle.tags.specs.Tags.{heldAt, isTag, emptyPlaces, holding, noteOf}
-use Rattle.tags.specs.Laws.{in-none}
+use Rattle.tags.specs.Tags.{noteOf}
+use Rattle.tags.specs.Laws.{in-none, empty-held}
 use Rattle.replies.specs.declared.Rcb.{Rcb}
 use Rattle.state.specs.declared.Function.{Function}
 use Rattle.state.specs.State.{fresh, isRcb, rcbOf}
@@ -87,10 +86,6 @@ module _ (me : Noted) (f : Function) (o : Ok me f) where
 
 -- ---- a Function that is reset, or new
 
-fresh-held : (t : Tag) → heldAt emptyPlaces t ≡ Free
-unfolding heldAt
-fresh-held t = byCases (isTag t) (λ u. rw (u, getD-replicate 32 (t .0) (holding Free) (holding Free) (ltb-true (t .0) 32 u))) (λ u. rw u)
-
 pub fresh-ok : (id stu : ℕ) (rcb : Rcb) → id < 65536 → Ok (record { id = id; stu = stu }) (fresh id stu rcb)
 fresh-ok id stu rcb h =
     record {
@@ -101,14 +96,14 @@ fresh-ok id stu rcb h =
       slots = empty-long 0;
       reached = λ j. rw (empty-slot 0 j) (lit≤ tt);
       tags = refl;
-      begun = λ t q e. let z : Free ≡ Ask q = sym (fresh-held t) ∙ e in let z : _≡_ {A = ℕ} 0 1 = cc in absurd (omega arith);
+      begun = λ t q e. let z : Free ≡ Ask q = sym (empty-held t) ∙ e in let z : _≡_ {A = ℕ} 0 1 = cc in absurd (omega arith);
       vector = lit≤ tt;
-      noted = λ t i e. absurd (never-both _ (sym (ap (λ (x : Open). isIn (noteOf x) i) (fresh-held t)) ∙ e) (in-none i));
+      noted = λ t i e. absurd (never-both _ (sym (ap (λ (x : Open). isIn (noteOf x) i) (empty-held t)) ∙ e) (in-none i));
       known = λ i e. absurd (never-both _ e (in-none i));
     }
 
 fresh-blank : (id stu : ℕ) (rcb : Rcb) → Blank (view (fresh id stu rcb))
-fresh-blank id stu rcb = record { opens = λ t. ap (pendingOf stu) (fresh-held (tag t)); waiting = λ i. refl }
+fresh-blank id stu rcb = record { opens = λ t. ap (pendingOf stu) (empty-held (tag t)); waiting = λ i. refl }
 
 -- ---- every run
 

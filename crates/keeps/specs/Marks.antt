@@ -1,6 +1,7 @@
 -- What stale marks, notes and openings do to a tag.
-use mathlib.Core.Path.{_≡_, refl, sym, _∙_}
-use mathlib.Core.Bool.{Bool, true, false, _&&_, _||_}
+use mathlib.Core.Path.{_≡_, refl, sym, ap, _∙_}
+use mathlib.Core.Bool.{Bool, true, false, _&&_, _||_, and-false}
+use mathlib.Core.Option.{some}
 use Prim.Native.Nat.{ℕ, _-_}
 use native.Mathlib.Omega.{arith}
 use lib.Dec.{eqb, leb}
@@ -11,21 +12,25 @@ use Rattle.span.specs.Range.{meetsOf, unitExponent, regionOf, isWithin}
 use Rattle.packet.specs.declared.ITag.{ITag}
 use Rattle.tags.specs.declared.Open.{Open}
 use Rattle.tags.specs.declared.Open.the-variants.{Free, Ask, Read}
+use Rattle.tags.specs.declared.Tr.{Tr}
 use Rattle.tags.specs.Itags.{place, isIn}
-use Rattle.tags.specs.Laws.{in-joined, in-none, snoopOf}
-use Rattle.tags.specs.Tags.{rangeOf, bytesAsked, noteOf, touches, marked, staled}
+use Rattle.tags.specs.Laws.{in-joined, in-none, range-run, touches-ask, touches-read, snoopOf}
+use Rattle.tags.specs.Tags.{rangeOf, noteOf, touches, stale, marked, staled}
 use Rattle.lemmas.specs.Bools.{no-tf}
-use Rattle.demand.specs.Demand.{isOpen, readIn}
+use Rattle.demand.specs.Demand.{translation, isOpen, readIn}
 use Rattle.demand.specs.Laws.{Apart}
 use Rattle.keeps.specs.Demands.{Cached, Reply, terms, isReplied}
 use Rattle.keeps.specs.Views.{pendingOf, liveOf}
 
 -- ---- E set: every Translation Request goes stale
 
+-- a stale request is for the same units
+stale-asked : (stu : ℕ) (q : Tr) → pendingOf stu (Ask (stale q)) ≡ pendingOf stu (Ask q)
+stale-asked stu q = ap (λ (r : Range). some (translation (record { stu = stu; range = r }) (q .whole - q .due))) (range-run (stale q) stu ∙ sym (range-run q stu))
+
 pub stale-pending : (stu : ℕ) (o : Open) → pendingOf stu (staled o) ≡ pendingOf stu o
-unfolding rangeOf
 stale-pending stu Free = refl
-stale-pending stu (Ask q) = refl
+stale-pending stu (Ask q) = stale-asked stu q
 stale-pending stu (Read r) = refl
 
 pub stale-live : (o : Open) → liveOf (staled o) ≡ true → liveOf o ≡ true
@@ -50,12 +55,11 @@ within-meets a b c w m =
 
 module _ (stu : ℕ) (range : Range) (i : ITag) where
   pub snoop-pending : (o : Open) → pendingOf stu (snoopOf stu range i o) ≡ pendingOf stu o
-  unfolding rangeOf
   snoop-pending o = byCases (touches stu range o) (λ u. rw u (mark o)) (λ u. rw u)
     where
       mark : (o : Open) → pendingOf stu (marked i o) ≡ pendingOf stu o
       mark Free = refl
-      mark (Ask q) = refl
+      mark (Ask q) = stale-asked stu q
       mark (Read r) = refl
 
   pub snoop-live : (o : Open) → liveOf (snoopOf stu range i o) ≡ true → (liveOf o ≡ true) × (touches stu range o ≡ false)
@@ -68,18 +72,9 @@ module _ (stu : ℕ) (range : Range) (i : ITag) where
 
   -- a read that overlaps is noted; where it was not, and another ITag, nothing changes
   pub snoop-noted : (o : Open) (k : ITag) → isIn (noteOf (snoopOf stu range i o)) k ≡ (isIn (noteOf o) k || (eqb (place i) (place k) && isOpen (readIn {T = terms} range (pendingOf stu o))))
-  unfolding touches bytesAsked
-  snoop-noted Free k = rw (in-none k) (no (eqb (place i) (place k)))
-    where
-      no : (b : Bool) → false ≡ (b && false)
-      no true = refl
-      no false = refl
-  snoop-noted (Ask q) k = byCases (touches stu range (Ask q)) (λ u. rw (u, in-none k) (no (eqb (place i) (place k)))) (λ u. rw (u, in-none k) (no (eqb (place i) (place k))))
-    where
-      no : (b : Bool) → false ≡ (b && false)
-      no true = refl
-      no false = refl
-  snoop-noted (Read r) k = byCases (touches stu range (Read r)) (λ u. rw u (in-joined (r .itags) i k ∙ yes (eqb (place i) (place k)) (isIn (r .itags) k))) (λ u. rw u (not-met (eqb (place i) (place k)) (isIn (r .itags) k)))
+  snoop-noted Free k = byCases (touches stu range Free) (λ u. rw (u, in-none k) (sym (and-false (eqb (place i) (place k))))) (λ u. rw (u, in-none k) (sym (and-false (eqb (place i) (place k)))))
+  snoop-noted (Ask q) k = byCases (touches stu range (Ask q)) (λ u. rw (u, in-none k) (sym (and-false (eqb (place i) (place k))))) (λ u. rw (u, in-none k) (sym (and-false (eqb (place i) (place k)))))
+  snoop-noted (Read r) k = rw (← touches-read stu range r) (byCases (touches stu range (Read r)) (λ u. rw u (in-joined (r .itags) i k ∙ yes (eqb (place i) (place k)) (isIn (r .itags) k))) (λ u. rw u (not-met (eqb (place i) (place k)) (isIn (r .itags) k))))
     where
       yes : (b x : Bool) → (x || b) ≡ (x || (b && true))
       yes true x = refl
@@ -93,7 +88,6 @@ module _ (stu : ℕ) (range : Range) (i : ITag) where
 
   -- what a Translation Request that stays live can give lies outside the range
   pub snoop-apart : (o : Open) → liveOf (snoopOf stu range i o) ≡ true → Apart range (pendingOf stu (snoopOf stu range i o))
-  unfolding touches
   snoop-apart o e = rw (snoop-pending o) (go o (snoop-live o e .1))
     where
       go : (o : Open) → touches stu range o ≡ false → Apart range (pendingOf stu o)
@@ -107,4 +101,4 @@ module _ (stu : ℕ) (range : Range) (i : ITag) where
               let s : x .stu ≡ stu = eqb-true (x .stu) stu (a .0) in
               let in-range : isWithin (regionOf (x .entry .unit) (unitExponent stu)) (rangeOf q stu) ≡ true = and-both _ _ (a .1) .0 in
               let over : meetsOf (regionOf (x .entry .unit) (unitExponent (x .stu))) range ≡ true = and-both (x .entry .used) _ m .1 in
-              never-both _ (within-meets (regionOf (x .entry .unit) (unitExponent stu)) (rangeOf q stu) range in-range (rw s at over)) u
+              never-both _ (within-meets (regionOf (x .entry .unit) (unitExponent stu)) (rangeOf q stu) range in-range (rw s at over)) (sym (touches-ask stu range q) ∙ u)

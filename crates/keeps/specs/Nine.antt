@@ -11,6 +11,7 @@ use Rattle.lemmas.specs.Cases.{byCases, never-both}
 use Rattle.packet.specs.declared.InvalidateRequest.{InvalidateRequest}
 use Rattle.packet.specs.Numbers.{number}
 use Rattle.tags.specs.Itags.{place, isIn}
+use Rattle.tags.specs.Laws.{in-place}
 use Rattle.state.specs.declared.Function.{Function}
 use Rattle.state.specs.declared.Agent.{Agent}
 use Rattle.state.specs.declared.Agent.the-variants.{Unknown, Known}
@@ -24,12 +25,12 @@ use Rattle.demand.specs.Demand.{Bench, next, resets, after}
 use Rattle.demand.specs.Theorem.{Blank}
 use Rattle.keeps.specs.Demands.{Call, Noted, card, isListed, itag, NineWhileWaiting}
 use Rattle.keeps.specs.Views.{isAgent, view, Ok}
-use Rattle.keeps.specs.Snoops.{place-lt, same-bit}
+use Rattle.keeps.specs.Snoops.{place-lt}
 use Rattle.keeps.specs.Keeps.{lawful, ran-ok, ran-waits}
 
 module _ (me : Noted) (f : Function) (o : Ok me f) (out : List ℕ) (from : ℕ) (i : InvalidateRequest) where
   listed : isListed (f .waiting) (place (i .itag)) ≡ isIn (f .waiting) (i .itag)
-  listed = rw (lt-ltb (place (i .itag)) 32 (place-lt (i .itag))) (same-bit (f .waiting) (i .itag))
+  listed = rw (lt-ltb (place (i .itag)) 32 (place-lt (i .itag))) (in-place (f .waiting) (i .itag))
 
   nine : (ended f out (invalidated f from i) .says ≡ number 9) ↔ ((isAgent (f .agent) from && isListed (f .waiting) (place (i .itag))) ≡ true)
   unfolding invalidated

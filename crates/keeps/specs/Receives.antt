@@ -9,7 +9,7 @@ use native.Mathlib.Omega.{arith}
 use lib.Dec.{eqb, leb, lit≤}
 use lib.ListN.{length}
 use borrow.Author.Tests.{eqb-true, eqb-false, leb-true, le-leb, lt-leb, eq-eqb, ne-eqb}
-use Rattle.lemmas.specs.Cases.{byCases, and-both, never-both}
+use Rattle.lemmas.specs.Cases.{and-both, never-both}
 use Rattle.packet.specs.declared.ITag.{ITag}
 use Rattle.packet.specs.declared.Tag.{Tag}
 use Rattle.packet.specs.declared.Outcome.{Outcome}
@@ -34,7 +34,7 @@ use Rattle.tags.specs.declared.Tr.{Tr}
 use Rattle.tags.specs.declared.Fetch.{Fetch}
 use Rattle.tags.specs.Itags.{isIn}
 use Rattle.tags.specs.Tags.{heldAt, isTag, rangeOf, noteOf}
-use Rattle.tags.specs.Laws.{in-none}
+use Rattle.tags.specs.Laws.{in-none, held-tag, range-run}
 use Rattle.pages.specs.declared.Interface.{Interface}
 use Rattle.pages.specs.declared.Interface.the-variants.{Off as IsOff, On, Stopped}
 use Rattle.pages.specs.Pages.{isIndex, isWaiting}
@@ -90,8 +90,7 @@ module _ (me : Noted) (f : Function) (o : Ok me f) (bytes out : List ℕ) (ty : 
 
     module _ (b : Open) (holds : heldAt (f .places) t ≡ b) (used : (heldAt (f .places) t ≡ Free → ⊥)) where
       own : isTag t ≡ true
-      unfolding heldAt
-      own = byCases (isTag t) (λ u. u) (λ u. absurd (used (rw u refl)))
+      own = held-tag (f .places) t used
 
       -- the cache stays
       same-cache : (d : Option Reply) → dataIn (c .outcome) (c .count) load ≡ d → (enabled : Bool) (after : Open) (w : Word) → pendingOf (f .stu) after ≡ leaves d (pendingOf (f .stu) b) → (liveOf after ≡ true → liveOf b ≡ true)
@@ -170,7 +169,7 @@ module _ (me : Noted) (f : Function) (o : Ok me f) (bytes out : List ℕ) (ty : 
 
       -- a first packet of two leaves the rest due; the last, and the only one, leave nothing
       for-part : dataIn (c .outcome) (c .count) load ≡ some reply → (x : Part) → judged q (f .stu) (f .rcb) (c .count) (c .lower) load ≡ x → Does (Good me f receive-call) (translatedAs f t q (c .count) load x)
-      unfolding settled rangeOf
+      unfolding settled
       for-part given Misfit j = does-number _ 8
       for-part given Off j = frees (Ask q) holds asks-used (some reply) given (f .enabled) _ (rw (eq-eqb (c .count) (length load) (off-whole q (f .stu) (f .rcb) (c .count) (c .lower) load j)))
       for-part given Last j =
@@ -183,10 +182,11 @@ module _ (me : Noted) (f : Function) (o : Ok me f) (bytes out : List ℕ) (ty : 
           let half : eqb (c .count) (length load) ≡ false = ne-eqb (c .count) (length load) (b .1 .1) in
           let none-before : q .whole ≡ 0 = o .begun t q holds (b .0) in
           let so-far : c .count - (c .count - length load) ≡ q .whole - q .due + length load = omega (arith, b .1 .0, none-before) in
+          let same-range : rangeOf (afterFirst q (c .count) load) (f .stu) ≡ rangeOf q (f .stu) = range-run (afterFirst q (c .count) load) (f .stu) ∙ sym (range-run q (f .stu)) in
           let begins : (p : Tr) → Ask (afterFirst q (c .count) load) ≡ Ask p → p .due ≡ 0 → p .whole ≡ 0 = λ p h d. let same : c .count - length load ≡ p .due = cc in absurd (b .1 .1 (omega (arith, b .1 .0, same, d))) in
           does-case _ (isLive f q) _ _
-          (λ live. fills-cache given live (first-fits q (f .stu) (f .rcb) (c .count) (c .lower) load j) (Ask (afterFirst q (c .count) load)) _ (rw (half, so-far)) (λ l. l) begins in-none)
-          (λ dead. same-cache (Ask q) holds asks-used (some reply) given (f .enabled) (Ask (afterFirst q (c .count) load)) _ (rw (half, so-far)) (λ l. l) begins (λ i. rw (half, in-none i)))
+          (λ live. fills-cache given live (first-fits q (f .stu) (f .rcb) (c .count) (c .lower) load j) (Ask (afterFirst q (c .count) load)) _ (rw (half, so-far, same-range)) (λ l. l) begins in-none)
+          (λ dead. same-cache (Ask q) holds asks-used (some reply) given (f .enabled) (Ask (afterFirst q (c .count) load)) _ (rw (half, so-far, same-range)) (λ l. l) begins (λ i. rw (half, in-none i)))
 
       for-ask : (x : Outcome) → c .outcome ≡ x → Does (Good me f receive-call) (completedFor f c load x (Ask q))
       unfolding translated untranslated

@@ -10,6 +10,7 @@ use lib.Dec.{eqb, leb, lit≤}
 use lib.ListN.{length}
 use borrow.Author.Tests.{eqb-true, ltb-true, leb-true, ne-eqb}
 use Rattle.lemmas.specs.Cases.{byCases, and-both, never-both}
+use Rattle.span.specs.declared.Range.{Range}
 use Rattle.span.specs.Range.{runOf, unitExponent}
 use Rattle.span.specs.Runs.{moved-lt, run-low-bits}
 use Rattle.packet.specs.declared.ITag.{ITag}
@@ -28,8 +29,8 @@ use Rattle.tags.specs.declared.Open.{Open}
 use Rattle.tags.specs.declared.Open.the-variants.{Free, Ask, Read}
 use Rattle.tags.specs.declared.Tr.{Tr}
 use Rattle.tags.specs.Itags.{isIn}
-use Rattle.tags.specs.Tags.{asked, fetching, freeTag, heldAt, isTag, rangeOf, noteOf, staled}
-use Rattle.tags.specs.Laws.{in-none, staled-long, staled-held, free-tag}
+use Rattle.tags.specs.Tags.{asked, fetching, freeTag, heldAt, isTag, noteOf, staled}
+use Rattle.tags.specs.Laws.{in-none, staled-long, staled-held, free-tag, range-run}
 use Rattle.pages.specs.declared.Pages.{Pages}
 use Rattle.pages.specs.Pages.{switchedOn, isWaiting, isSpent}
 use Rattle.pages.specs.declared.Interface.{Interface}
@@ -49,7 +50,7 @@ use Rattle.card.specs.declared.Accessing.{Accessing}
 use Rattle.card.specs.declared.Command.{Command}
 use Rattle.card.specs.declared.Command.the-variants.{Enable, Disable, Ask as Asks, Access as Accesses, PagesOn, PagesOff, PageRequest as PageRequests}
 use Rattle.lemmas.specs.Bools.{no-tf, no-some}
-use Rattle.demand.specs.Demand.{Ticket, Sent, TR, READ, Pending, onSent, uses, completes}
+use Rattle.demand.specs.Demand.{Ticket, Sent, TR, READ, Pending, translation, onSent, uses, completes}
 use Rattle.demand.specs.Laws.{Step}
 use Rattle.tlp.specs.Words.{areBytes}
 use Rattle.keeps.specs.Demands.{terms, isTyped, Call, Noted, itag}
@@ -174,11 +175,14 @@ module _ (me : Noted) (f : Function) (o : Ok me f) (a : Asking) (bytes out : Lis
   abbrev ask-call : Call
   ask-call = record { command = Asks a; bytes = bytes; out = out; typed = ty; octets = octets }
 
+  abbrev new-request : Tr
+  new-request = record { address = a .address; further = a .units - 1; stale = false; size = 0; whole = 0; due = 0 }
+
   asks-units : (units : ℕ) → 1 ≤ units → dwordsOf (2 * units) / 2 - 1 ≡ units - 1
   asks-units units h = rw (ne-eqb (2 * units) 0 (omega arith)) (omega arith)
 
   pub good-ask : Does (Good me f ask-call) (asking f (a .address) (a .units) (a .nowrite) out)
-  unfolding asking rangeOf
+  unfolding asking
   good-ask =
       does-case _ (f .enabled) _ _
       (λ on. does-case _ (isAskable (f .rcb) (f .stu) (a .address) (a .units)) _ _
@@ -190,7 +194,8 @@ module _ (me : Noted) (f : Function) (o : Ok me f) (a : Asking) (bytes out : Lis
       (typed-request (headOf (f .id)) (o .id) _ (omega (arith, ltb-true (t .0) 32 own)) (omega (arith, ltb-true (a .address) (2 ^ 64) ty)))
       (opened-ok me f o t own b (λ q e d. let z : 0 ≡ q .whole = cc in sym z) in-none) (λ i. refl)
       (rw (asks-units (a .units) (n .0), run-low-bits (a .address) (a .units - 1) (me .stu), ← o .unit)
-      (open-step me f o t own b (free-tag (f .places) (o .tags) own) (TR (t .0) (record { stu = f .stu; range = runOf (a .address) (a .units - 1) (f .stu) })) (λ u. refl) (λ u p. refl) (λ i. refl) in-none)))
+      (open-step me f o t own b (free-tag (f .places) (o .tags) own) (TR (t .0) (record { stu = f .stu; range = runOf (a .address) (a .units - 1) (f .stu) })) (λ u. refl)
+      (λ u p. ap (λ (r : Range). cond {A = Option (Pending terms)} (eqb u (t .0)) (some (translation (record { stu = f .stu; range = r }) 0)) p) (sym (range-run new-request (f .stu)))) (λ i. refl) in-none)))
       (λ e. does-number _ 11))
       (λ e. does-number _ 12))
       (λ e. does-number _ 6)

@@ -3,11 +3,9 @@ use mathlib.Core.Path.{_≡_, refl, sym, ap, _∙_}
 use mathlib.Core.Logic.{inl}
 use mathlib.Core.Bool.{Bool, true, false, not, cond, _&&_, _||_, and-false, or-true}
 use mathlib.Core.Option.{Option, none, some}
-use Prim.Native.Nat.{ℕ, _-_, _^_, _<_, _≤_}
+use Prim.Native.Nat.{ℕ, _-_, _<_, _≤_}
 use native.Mathlib.Omega.{arith}
 use lib.Dec.{eqb, ltb, lit≤}
-use lib.Pow.{pow-lt}
-use lib.Bits.{or-lt}
 use borrow.Author.Tests.{eqb-true, eqb-false, ltb-true, lt-ltb, eq-eqb, ne-eqb}
 use Rattle.lemmas.specs.Cases.{byCases, and-both, never-both, is-false}
 use Rattle.span.specs.declared.Range.{Range}
@@ -20,9 +18,9 @@ use Rattle.atc.specs.Laws.{span-slot, span-clear, span-long}
 use Rattle.tags.specs.declared.Open.{Open}
 use Rattle.tags.specs.declared.Open.the-variants.{Free, Ask, Read}
 use Rattle.tags.specs.declared.Tr.{Tr}
-use Rattle.tags.specs.Itags.{place, isIn, joined}
+use Rattle.tags.specs.Itags.{place, isIn}
 use Rattle.tags.specs.Tags.{heldAt, noteOf, marked, touches as concerns}
-use Rattle.tags.specs.Laws.{in-joined, snooped-long, snoopOf, snooped-held}
+use Rattle.tags.specs.Laws.{in-joined, in-place, joined-lt, snooped-long, snoopOf, snooped-held}
 use Rattle.state.specs.declared.Function.{Function}
 use Rattle.state.specs.declared.Agent.{Agent}
 use Rattle.state.specs.declared.Agent.the-variants.{Unknown, Known}
@@ -52,10 +50,6 @@ place-lt i = omega arith
 
 place-is : (n : ℕ) → n < 32 → place (itag n) ≡ n
 place-is n h = omega arith
-
-pub same-bit : (v : ℕ) (i : ITag) → isIn v (itag (place i)) ≡ isIn v i
-unfolding isIn
-same-bit v i = rw (place-is (place i) (place-lt i))
 
 module _ (me : Noted) (f : Function) (o : Ok me f) (from : ℕ) (i : InvalidateRequest) (short : from < 65536) (ours : isOther (f .agent) from ≡ false) (idle : isIn (f .waiting) (i .itag) ≡ false) where
   abbrev range : Range
@@ -92,7 +86,6 @@ module _ (me : Noted) (f : Function) (o : Ok me f) (from : ℕ) (i : InvalidateR
       mark (Read r) h e = let z : _≡_ {A = ℕ} 0 1 = cc in absurd (omega arith)
 
   pub gone-ok : Ok me gone
-  unfolding joined
   gone-ok =
       record {
         unit = o .unit;
@@ -103,7 +96,7 @@ module _ (me : Noted) (f : Function) (o : Ok me f) (from : ℕ) (i : InvalidateR
         reached = λ j. rw (slot-is j) (byCases (touches (f .stu) range (slotAt (f .cache .slots) j)) (λ u. rw u (lit≤ tt)) (λ u. rw u (o .reached j)));
         tags = snooped-long (f .places) (f .stu) range (i .itag) ∙ o .tags;
         begun = λ t q h. marked-begun t q (heldAt (f .places) t) refl (sym (at-tag t) ∙ h);
-        vector = or-lt 32 (f .waiting) (2 ^ place (i .itag)) (o .vector) (pow-lt (place-lt (i .itag)));
+        vector = joined-lt (f .waiting) (i .itag) (o .vector);
         noted = λ t k h. in-joined (f .waiting) (i .itag) k ∙ still (isIn (noteOf (heldAt (f .places) t)) k) (isIn (f .waiting) k) (eqb (place (i .itag)) (place k)) _ (λ e. o .noted t k e)
             (sym (ap (λ (x : Open). isIn (noteOf x) k) (at-tag t) ∙ snoop-noted (f .stu) range (i .itag) (heldAt (f .places) t) k) ∙ h);
         known = λ k e u. let z : _≡_ {A = ℕ} 0 1 = cc in absurd (omega arith);
@@ -124,7 +117,7 @@ module _ (me : Noted) (f : Function) (o : Ok me f) (from : ℕ) (i : InvalidateR
 
   -- is k the ticket of this request?
   mine : (k : Ticket) → eqb (k .number) (place (i .itag)) ≡ true → isListed (f .waiting) (k .number) ≡ false
-  mine k e = rw (eqb-true (k .number) (place (i .itag)) e, same-bit (f .waiting) (i .itag), idle) (and-false (ltb (place (i .itag)) 32))
+  mine k e = rw (eqb-true (k .number) (place (i .itag)) e, in-place (f .waiting) (i .itag), idle) (and-false (ltb (place (i .itag)) 32))
 
   other : (k : Ticket) → eqb (k .number) (place (i .itag)) ≡ false → ltb (k .number) 32 ≡ true → eqb (place (i .itag)) (place (itag (k .number))) ≡ false
   other k e l = rw (place-is (k .number) (ltb-true (k .number) 32 l)) (ne-eqb (place (i .itag)) (k .number) (λ z. eqb-false (k .number) (place (i .itag)) e (sym z)))
@@ -175,7 +168,7 @@ module _ (me : Noted) (f : Function) (o : Ok me f) (from : ℕ) (i : InvalidateR
       (λ e. rw (agent, e, other k e low) (or-no _))
     where
       unnoted : k .number ≡ place (i .itag) → isIn (noteOf (heldAt (f .places) (tag t))) (itag (k .number)) ≡ false
-      unnoted n = is-false _ (λ h. never-both _ (o .noted (tag t) (itag (k .number)) h) (rw (n, same-bit (f .waiting) (i .itag)) idle))
+      unnoted n = is-false _ (λ h. never-both _ (o .noted (tag t) (itag (k .number)) h) (rw (n, in-place (f .waiting) (i .itag)) idle))
 
       or-no : (b : Bool) → (b || false) ≡ b
       or-no true = refl

@@ -11,7 +11,7 @@ use Rattle.span.specs.declared.Range.{Range}
 use Rattle.packet.specs.declared.ITag.{ITag}
 use Rattle.packet.specs.declared.Tag.{Tag}
 use Rattle.packet.specs.declared.Packet.{Packet}
-use Rattle.packet.specs.Numbers.{Said, gives, number}
+use Rattle.packet.specs.Numbers.{gives}
 use Rattle.packet.specs.Reading.{reading}
 use Rattle.packet.specs.Writing.{writing, bytesOf}
 use Rattle.tlp.specs.Fields.{Typed}
@@ -27,8 +27,8 @@ use Rattle.tags.specs.Tags.{heldAt, rangeOf, noteOf}
 use Rattle.state.specs.declared.Function.{Function}
 use Rattle.state.specs.declared.Agent.{Agent}
 use Rattle.state.specs.declared.Agent.the-variants.{Unknown, Known}
-use Rattle.state.specs.Answers.{Word, Deed, plainly, sentAs, sending}
-use Rattle.state.specs.Laws.{Does, does-plain, does-number}
+use Rattle.state.specs.Answers.{Word, Deed, plainly, sending}
+use Rattle.state.specs.Laws.{Does, does-plain, does-write}
 use Rattle.drains.specs.Drain.{agentId}
 use Rattle.lemmas.specs.Bools.{no-tf, no-some}
 use Rattle.demand.specs.Demand.{Ticket, Sent, Pending, translation, fetch, accepts}
@@ -120,18 +120,13 @@ module _ (me : Noted) (f : Function) (c : Call) where
 
   -- what was sent reads as what it is
   pub good-send : (g : Function) (w : Word) (p : Packet) (load : List ℕ) → Typed p → Ok me g → Alone → Effects g (packetSent (me .stu) (c .command) (gives p)) → Does (Good me f c) (sending g w p load (c .out))
-  unfolding sending
-  good-send g w p load ty o alone s = go (writing p (length load) (length (c .out))) refl
+  good-send g w p load ty o alone s = does-write (Good me f c) g w p load (c .out) one
     where
-      go : (r : Said ℕ) → writing p (length load) (length (c .out)) ≡ r → Does (Good me f c) (sentAs g w (bytesOf p load) r)
-      go (number n) e = does-number (Good me f c) n
-      go (gives n) e = record { deed = λ d q. let same : record { state = g; word = w; sent = n; bytes = bytesOf p load } ≡ d = cc in rw same at one }
-        where
-          back : reading (take n (bytesOf p load ++ drop (length (bytesOf p load)) (c .out))) ≡ gives p
-          back = rw e at (sent-reads p load (c .out) n ty e)
-
-          one : Good me f c (record { state = g; word = w; sent = n; bytes = bytesOf p load })
-          one = record { ok = o; step = rw back s; legible = rw back (or-true (eqb (length (take n (bytesOf p load ++ drop (length (bytesOf p load)) (c .out)))) 0)); apart = λ i a h. no-some (sym (alone i) ∙ h) }
+      one : (n : ℕ) → writing p (length load) (length (c .out)) ≡ gives n → Good me f c (record { state = g; word = w; sent = n; bytes = bytesOf p load })
+      one n e =
+          let out = take n (bytesOf p load ++ drop (length (bytesOf p load)) (c .out)) in
+          let back : reading out ≡ gives p = rw e at (sent-reads p load (c .out) n ty e) in
+          record { ok = o; step = rw back s; legible = rw back (or-true (eqb (length out) 0)); apart = λ i a h. no-some (sym (alone i) ∙ h) }
 
 -- nothing is taken or sent, and nothing changes
 pub quiet : (v : View terms) → Step 32 v v (record { took = none; sent = none })

@@ -2,8 +2,8 @@
 use mathlib.Core.Path.{_≡_, refl, sym, ap, _∙_}
 use mathlib.Core.Bool.{Bool, true, false, not, _&&_, true≢false}
 use mathlib.Core.List.{List, [], _∷_, _++_, append-nil}
-use Prim.Native.Nat.{ℕ, zero, suc, _+_, _-_, _≤_, _<_}
-use native.Mathlib.Nat.{not-suc-le-zero, le-of-suc-le-suc, le-refl}
+use Prim.Native.Nat.{ℕ, _+_, _-_, _≤_, _<_}
+use native.Mathlib.Nat.{le-refl}
 use native.Mathlib.Numerals.{add-one}
 use native.Mathlib.Omega.{arith}
 use lib.Dec.{eqb, leb}
@@ -11,6 +11,7 @@ use lib.ListN.{length, take, drop, getD, length-drop, take-append-drop, drop-of-
 use lib.Seq.{take-suc, take-add, append-snoc, split-at, take-all, length-take-le, getD-take}
 use borrow.Author.Tests.{ne-eqb, eqb-true, not-true, leb-true, leb-false}
 use Rattle.text.specs.Digits.{isHex, allHex}
+use Rattle.text.specs.Pairs.{hex-cons, digit-at}
 use Rattle.lister.specs.Line.{lineText}
 use Rattle.lister.specs.Stream.{printed, numberAfter, startAfter}
 use Rattle.lister.specs.Cuts.{printed-append, numberAfter-append, startAfter-append}
@@ -39,10 +40,10 @@ and-both true b e = (refl, e)
 and-both false b e = absurd (true≢false (sym e))
 
 pub hex-no-feed : (cs : List ℕ) → allHex cs ≡ true → noFeed cs ≡ true
-unfolding allHex noFeed
+unfolding noFeed
 hex-no-feed [] h = refl
 hex-no-feed (c ∷ cs) h =
-    let b = and-both (isHex c) (allHex cs) h in
+    let b = hex-cons c cs h in
     rw (digit c (eqb c 10) refl (b .0), hex-no-feed cs (b .1))
 
 not-feed : (c : ℕ) (cs : List ℕ) → noFeed (c ∷ cs) ≡ true → (eqb c 10 ≡ false) × (noFeed cs ≡ true)
@@ -128,12 +129,6 @@ module _ (k : ℕ) (cs : List ℕ) (taken n : ℕ) (w : WholeLines k cs taken n)
 pub all-taken : (cs : List ℕ) (taken : ℕ) → length cs ≤ taken → noFeed (drop taken cs) ≡ true
 unfolding noFeed
 all-taken cs taken h = rw (drop-of-length-le cs {i = taken} h)
-
-digit-at : (cs : List ℕ) (i : ℕ) → allHex cs ≡ true → i < length cs → isHex (getD cs i 0) ≡ true
-unfolding allHex
-digit-at [] i h l = absurd (not-suc-le-zero l)
-digit-at (c ∷ cs) zero h l = and-both (isHex c) (allHex cs) h .0
-digit-at (c ∷ cs) (suc i) h l = digit-at cs i (and-both (isHex c) (allHex cs) h .1) (le-of-suc-le-suc l)
 
 -- the hex digits at the start of a list end before its first line feed
 pub hex-before : (cs : List ℕ) (n end : ℕ) → allHex (take n cs) ≡ true → n ≤ length cs → LineEnd cs end → end < length cs → n ≤ end

@@ -1,11 +1,11 @@
 -- What a hold stands for, and what is put after it.
 use mathlib.Core.Path.{_≡_, refl, sym, ap, _∙_}
-use mathlib.Core.Bool.{Bool, true, false, cond}
+use mathlib.Core.Bool.{Bool, true, false}
 use mathlib.Core.List.{List, [], _∷_, _++_}
 use Prim.Native.Nat.{ℕ, _+_, _-_, _≤_, _<_, min, zero-le}
 use native.Mathlib.Nat.{zero-add, not-suc-le-zero, min-eq-left, min-eq-right}
 use native.Mathlib.Omega.{arith}
-use lib.Dec.{ltb, leb}
+use lib.Dec.{leb}
 use lib.ListN.{length, take, take-append-drop}
 use lib.Seq.{paste, take-all, take-length, take-append-add, length-take-le}
 use borrow.Author.Tests.{leb-true, leb-false, lt-ltb, le-ltb}
@@ -16,7 +16,7 @@ use Rattle.rows.specs.Places.{Laid}
 use Rattle.lister.specs.Stream.{printed, numberAfter, startAfter, lastText, cut}
 use Rattle.lister.specs.Cuts.{lineText-cut}
 use Rattle.lister.specs.Pieces.{startIn, takes, fed, finished}
-use Rattle.rows.specs.Laying.{then, laid-start, laid-after, at-start}
+use Rattle.rows.specs.Laying.{then, laid-start, laid-after, at-start, row-none}
 
 cut-after : (p cs : List ℕ) → length p ≤ 289 → p ++ take (289 - length p) cs ≡ cut (p ++ cs)
 cut-after p cs h =
@@ -59,13 +59,9 @@ start-is held hold m s e f = rw (f, e) (start-case (leb (min held 289) (length h
 
 -- ---- the last line
 
-either : {A : Type 0} (t : Bool) (x : A) → x ≡ cond t x x
-either true x = refl
-either false x = refl
-
 pub finish-none : (k held : ℕ) (hold out : List ℕ) → startIn held hold ≡ [] → (0, out) ≡ finished k held hold out
-unfolding finished rowIn
-finish-none k held hold out e = rw e (either (ltb (length out) 64) (0, out))
+unfolding finished
+finish-none k held hold out e = rw e (sym (row-none out))
 
 last-line : (k : ℕ) (p : List ℕ) → 0 < length p → lastText k p ≡ lineText k p
 last-line k [] h = absurd (not-suc-le-zero h)

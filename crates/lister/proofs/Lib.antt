@@ -1,4 +1,3 @@
-pub mod Hexes
 pub mod Spelled
 pub mod Feeds
 pub mod Holds

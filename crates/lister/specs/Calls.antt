@@ -1,28 +1,20 @@
 -- What a caller needs of a call: that it stays within what was lent, and that the next call finds what the last one kept.
 use Prim.Native.Nat.{ℕ, _≤_, min, zero-le}
-use mathlib.Core.Path.{_≡_, refl, ap, _∙_}
+use mathlib.Core.Path.{_≡_, refl, ap}
 use mathlib.Core.Bool.{Bool, true, false, cond}
 use mathlib.Core.List.{List, _++_}
 use native.Mathlib.Nat.{le-trans, min-le-left, min-eq-left}
-use native.Mathlib.Omega.{arith}
 use lib.Dec.{ltb}
-use lib.ListN.{length, take, drop, length-append, length-take}
+use lib.ListN.{length, take, drop, length-take}
 use lib.Seq.{take-at}
-use Rattle.rows.specs.Rows.{atStart, rowIn}
+use Rattle.rows.specs.Laying.{start-within, row-within}
 use Rattle.lister.specs.declared.Fed.{Fed}
 use Rattle.lister.specs.Stream.{printed, lastText, cut}
 use Rattle.lister.specs.Pieces.{startIn, takes, fed, finished}
 
-within : (s out o : List ℕ) → o ≡ s ++ drop (length s) out → length o ≡ length out → length s ≤ length out
-within s out o e l = let f = ap length e ∙ length-append s (drop (length s) out) in omega arith
-
 takes-some : (t : Bool) (k n room : ℕ) → cond t 0 (takes k n room) ≤ n
 takes-some true k n room = zero-le
 takes-some false k n room = le-trans (min-le-left (min n _) _) (min-le-left n _)
-
-row-some : (t : Bool) (s out : List ℕ) (n : ℕ) (o : List ℕ) → (n, o) ≡ cond t (0, out) (atStart s out) → length o ≡ length out → n ≤ length out
-row-some true s out n o e l = rw (ap (λ (x : ℕ × List ℕ). x .0) e) zero-le
-row-some false s out n o e l = rw (ap (λ (x : ℕ × List ℕ). x .0) e) (within s out o (ap (λ (x : ℕ × List ℕ). x .1) e) l)
 
 module _ (k held : ℕ) (hold block out : List ℕ) (r : Fed) (h o : List ℕ) (e : (r, h, o) ≡ fed k held hold block out) where
   pub feed-takes : r .taken ≤ length block
@@ -31,11 +23,11 @@ module _ (k held : ℕ) (hold block out : List ℕ) (r : Fed) (h o : List ℕ) (
 
   pub feed-writes : length o ≡ length out → r .written ≤ length out
   unfolding fed
-  feed-writes l = rw (ap (λ (x : Fed × List ℕ × List ℕ). x .0 .written) e) (within (printed k (startIn held hold) (take (cond (ltb (length hold) 289) 0 (takes k (length block) (length out))) block)) out o (ap (λ (x : Fed × List ℕ × List ℕ). x .2) e) l)
+  feed-writes l = start-within (printed k (startIn held hold) (take (cond (ltb (length hold) 289) 0 (takes k (length block) (length out))) block)) out (r .written) o (ap (λ (x : Fed × List ℕ × List ℕ). (x .0 .written, x .2)) e) l
 
 pub finish-writes : (k held : ℕ) (hold out : List ℕ) (n : ℕ) (o : List ℕ) → (n, o) ≡ finished k held hold out → length o ≡ length out → n ≤ length out
-unfolding finished rowIn
-finish-writes k held hold out n o e l = row-some (ltb (length out) 64) (lastText k (startIn held hold)) out n o e l
+unfolding finished
+finish-writes k held hold out n o e l = row-within (lastText k (startIn held hold)) out n o e l
 
 -- what is held after a piece is the start of the line that the piece left
 pub start-kept : (s hold : List ℕ) → startIn (length (cut s)) (cut s ++ drop (length (cut s)) hold) ≡ cut s

@@ -145,3 +145,8 @@ one-size q stu load f some = byCases (eqb (q .due) 0) (λ u. rw u refl) (λ u. r
         let test : ℕ → Bool = λ i. fitsAt (rangeOf q stu) (q .size) (cameOf q + i) (translationAt load i .size) in
         byCases (test 0) (λ t. sized (translationAt load 0 .size) (q .size) (and-both (hasSize (translationAt load 0 .size) (q .size)) _ t .0))
         (λ t. absurd (never-both _ every (all-stop test 0 (length load / 8) some t)))
+
+-- how many translations came in an earlier packet is told by its bytes
+pub came-by : (q : Tr) → cameOf q ≡ (q .whole - q .due) / 8
+unfolding cameOf
+came-by q = refl

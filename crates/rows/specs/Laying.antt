@@ -1,5 +1,7 @@
 -- One text laid after another.
-use mathlib.Core.Path.{_≡_, sym, ap, _∙_}
+use mathlib.Core.Path.{_≡_, refl, sym, ap, _∙_}
+use mathlib.Core.Bool.{Bool, true, false, cond}
+use lib.Dec.{ltb}
 use mathlib.Core.List.{List, [], _∷_, _++_, append-assoc, append-nil}
 use Prim.Native.Nat.{ℕ, _+_, _-_, _≤_, _<_, zero-le}
 use native.Mathlib.Nat.{add-zero, zero-add, add-assoc, le-refl}
@@ -92,6 +94,33 @@ pub laid-length : (at : ℕ) (s l : List ℕ) (n : ℕ) (m : List ℕ) → at + 
 laid-length at s l n m h p =
     let e : length (take at l) ≡ at = length-take-le at l (omega arith) in
     rw (p .1, length-append, length-append, e, length-drop) (omega arith)
+
+-- ---- what a call leaves of a row
+
+within : (s out o : List ℕ) → o ≡ s ++ drop (length s) out → length o ≡ length out → length s ≤ length out
+within s out o e l = let f = ap length e ∙ length-append s (drop (length s) out) in omega arith
+
+-- a text that stands at the start of a buffer is no longer than the buffer
+pub start-within : (s out : List ℕ) (n : ℕ) (o : List ℕ) → (n, o) ≡ atStart s out → length o ≡ length out → n ≤ length out
+start-within s out n o e l = rw (ap (λ (x : ℕ × List ℕ). x .0) e) (within s out o (ap (λ (x : ℕ × List ℕ). x .1) e) l)
+
+-- and so is a row
+pub row-within : (s out : List ℕ) (n : ℕ) (o : List ℕ) → (n, o) ≡ rowIn s out → length o ≡ length out → n ≤ length out
+unfolding rowIn
+row-within s out n o e l = go (ltb (length out) 64) e
+  where
+    go : (t : Bool) → (n, o) ≡ cond t (0, out) (atStart s out) → n ≤ length out
+    go true q = rw (ap (λ (x : ℕ × List ℕ). x .0) q) zero-le
+    go false q = start-within s out n o q l
+
+-- nothing is put, whatever the room
+pub row-none : (out : List ℕ) → rowIn [] out ≡ (0, out)
+unfolding rowIn
+row-none out = go (ltb (length out) 64)
+  where
+    go : (t : Bool) → cond t (0, out) (atStart [] out) ≡ (0, out)
+    go true = refl
+    go false = refl
 
 -- a row put into a buffer that has room
 pub row-start : (s out : List ℕ) (n : ℕ) (l : List ℕ) → 64 ≤ length out → (n, l) ≡ rowIn s out → Laid 0 s out n l

@@ -43,13 +43,18 @@ module _ (Q : Deed → Type 0) where
   pub does-case : (t : Bool) (a b : Said Deed) → (t ≡ true → Does Q a) → (t ≡ false → Does Q b) → Does Q (cond t a b)
   does-case t a b = either-case (Does Q) t a b
 
-  pub does-send : (g : Function) (w : Word) (p : Packet) (load out : List ℕ) → ((n : ℕ) → Q (record { state = g; word = w; sent = n; bytes = bytesOf p load })) → Does Q (sending g w p load out)
+  -- a packet that goes out is one that could be written
+  pub does-write : (g : Function) (w : Word) (p : Packet) (load out : List ℕ)
+      → ((n : ℕ) → writing p (length load) (length out) ≡ gives n → Q (record { state = g; word = w; sent = n; bytes = bytesOf p load })) → Does Q (sending g w p load out)
   unfolding sending
-  does-send g w p load out h = go (writing p (length load) (length out))
+  does-write g w p load out h = go (writing p (length load) (length out)) refl
     where
-      go : (s : Said ℕ) → Does Q (sentAs g w (bytesOf p load) s)
-      go (gives n) = record { deed = λ d e. let same : record { state = g; word = w; sent = n; bytes = bytesOf p load } ≡ d = cc in rw same at (h n) }
-      go (number n) = does-number n
+      go : (s : Said ℕ) → writing p (length load) (length out) ≡ s → Does Q (sentAs g w (bytesOf p load) s)
+      go (gives n) e = record { deed = λ d k. let same : record { state = g; word = w; sent = n; bytes = bytesOf p load } ≡ d = cc in rw same at (h n e) }
+      go (number n) e = does-number n
+
+  pub does-send : (g : Function) (w : Word) (p : Packet) (load out : List ℕ) → ((n : ℕ) → Q (record { state = g; word = w; sent = n; bytes = bytesOf p load })) → Does Q (sending g w p load out)
+  does-send g w p load out h = does-write g w p load out (λ n e. h n)
 
 pub ruleset does = (does-plain, does-number, does-case, does-send)
 

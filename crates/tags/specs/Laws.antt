@@ -3,11 +3,12 @@ use mathlib.Core.Path.{_≡_, refl, sym, ap, _∙_}
 use mathlib.Core.Bool.{Bool, true, false, not, cond, _&&_, _||_}
 use mathlib.Core.List.{List, [], _∷_, map}
 use mathlib.Core.Logic.{_↔_}
-use Prim.Native.Nat.{ℕ, zero, suc, _^_, _≤_}
+use Prim.Native.Nat.{ℕ, zero, suc, _-_, _^_, _<_, _≤_}
 use native.Mathlib.Omega.{arith}
 use lib.Dec.{ltb, eqb}
-use lib.Bits.{bitOr}
-use lib.ListN.{length, getD, length-set, length-map, List·getD-eq-default, List·getD-map}
+use lib.Bits.{bitOr, or-lt}
+use lib.Pow.{pow-lt}
+use lib.ListN.{length, getD, length-set, length-map, getD-replicate, List·getD-eq-default, List·getD-map}
 use lib.Seq.{getD-set-same, getD-set-other}
 use borrow.Author.Tests.{eqb-true, eqb-false, ltb-true, ltb-false}
 use Rattle.lemmas.specs.Cases.{byCases, or-true, never-both}
@@ -16,14 +17,16 @@ use Rattle.lemmas.specs.First.{firstAt, first-holds}
 use Rattle.lemmas.specs.Bits.{or-set, without-set, none-set, power-set}
 use Rattle.lemmas.specs.Gather.{gather}
 use Rattle.span.specs.declared.Range.{Range}
+use Rattle.span.specs.Range.{runOf, reachOf, meetsOf}
 use Rattle.packet.specs.declared.Tag.{Tag}
 use Rattle.packet.specs.declared.ITag.{ITag}
 use Rattle.tags.specs.declared.Open.{Open}
 use Rattle.tags.specs.declared.Open.the-variants.{Free, Ask, Read}
+use Rattle.tags.specs.declared.Tr.{Tr}
 use Rattle.tags.specs.declared.Fetch.{Fetch}
 use Rattle.tags.specs.declared.Place.{Place}
 use Rattle.tags.specs.Itags.{place, isIn, joined, without}
-use Rattle.tags.specs.Tags.{holding, isFree, freeAt, freeTag, isTag, heldAt, placed, touches, marked, snoopedAt, snooped, staled, staledAt, allStaled, noteAt, noted}
+use Rattle.tags.specs.Tags.{holding, emptyPlaces, isFree, freeAt, freeTag, isTag, heldAt, placed, rangeOf, bytesAsked, touches, marked, snoopedAt, snooped, staled, staledAt, allStaled, noteAt, noted}
 
 -- ---- ITags in vectors
 
@@ -46,6 +49,20 @@ in-none i = none-set (place i)
 pub in-joined : (v : ℕ) (i j : ITag) → isIn (joined v i) j ≡ (isIn v j || eqb (place i) (place j))
 unfolding joined isIn
 in-joined v i j = in-either v (2 ^ place i) j ∙ ap (λ (t : Bool). isIn v j || t) (power-set (place i) (place j))
+
+-- the bit of an ITag stands for it,
+pub in-place : (v : ℕ) (i : ITag) → isIn v (record { 0 = place i }) ≡ isIn v i
+unfolding isIn
+in-place v i = let same : place (record { 0 = place i }) ≡ place i = omega arith in rw same
+
+-- and 32 bits hold what joins them, and what is left of them
+pub joined-lt : (v : ℕ) (i : ITag) → v < 4294967296 → joined v i < 4294967296
+unfolding joined
+joined-lt v i h = or-lt 32 v (2 ^ place i) h (pow-lt (let five : place i < 32 = omega arith in five))
+
+pub without-le : (v w : ℕ) → without v w ≤ v
+unfolding without
+without-le v w = omega arith
 
 -- ---- what reads hold back
 
@@ -98,6 +115,16 @@ noted-exactly places i all = (λ e. let n = noted-at i places e in one (n .0) (n
         (λ u. absurd (not-read (h .read) (rw u at (h .held))))
 
 -- ---- a tag opened or freed
+
+-- no tag is open for anything at first,
+pub empty-held : (t : Tag) → heldAt emptyPlaces t ≡ Free
+unfolding heldAt
+empty-held t = byCases (isTag t) (λ u. rw (u, getD-replicate 32 (t .0) (holding Free) (holding Free) (ltb-true (t .0) 32 u))) (λ u. rw u)
+
+-- and what is open is one of the 32
+pub held-tag : (places : List Place) (t : Tag) → (heldAt places t ≡ Free → ⊥) → isTag t ≡ true
+unfolding heldAt
+held-tag places t used = byCases (isTag t) (λ u. u) (λ u. absurd (used (rw u refl)))
 
 module _ (places : List Place) (t : Tag) (o : Open) where
   -- the places stay as many
@@ -164,6 +191,20 @@ staled-held places t = held-map staled staledAt (λ p. one (p .held) p refl) ref
     one Free p e = rw e
     one (Ask q) p e = rw e
     one (Read r) p e = rw e
+
+-- the range of a Translation Request goes by its address and its number of units,
+pub range-run : (t : Tr) (stu : ℕ) → rangeOf t stu ≡ runOf (t .address) (t .further) stu
+unfolding rangeOf
+range-run t stu = refl
+
+-- and an invalidation concerns it by that range, and a translated read by all its bytes
+pub touches-ask : (stu : ℕ) (range : Range) (t : Tr) → touches stu range (Ask t) ≡ meetsOf (rangeOf t stu) range
+unfolding touches
+touches-ask stu range t = refl
+
+pub touches-read : (stu : ℕ) (range : Range) (f : Fetch) → touches stu range (Read f) ≡ (f .translated && meetsOf (reachOf (f .address) (f .bytes - 1)) range)
+unfolding touches bytesAsked
+touches-read stu range f = refl
 
 -- an invalidation marks what it concerns
 module _ (stu : ℕ) (range : Range) (i : ITag) where

@@ -1,3 +1,4 @@
 pub mod Digits
 pub mod Numerals
 pub mod Values
+pub mod Pairs

@@ -3,8 +3,7 @@ use Prim.Native.Nat.{_+_, _-_, _*_, _≤_, _<_}
 use native.Mathlib.Omega.{arith}
 use lib.ListN.{length, getD, length-set}
 use borrow.Author.Needs.{needs}
-use Rattle.text.specs.Digits.{allHex, unhex}
-use Rattle.lister.proofs.Hexes.{Run, turn, no-high, no-low}
+use Rattle.text.specs.Pairs.{Run, none-spelled, turn, no-high, no-low}
 use Rattle.lister.proofs.hex.run.Statement.{statement}
 use Rattle.lister.proofs.hex.run.Tie as tie
 
@@ -18,8 +17,7 @@ most-requires : tie.Need-most-requires Inv-loop μ-loop
 most-requires c κs = search needs
 
 loop-holds : tie.Need-loop-holds Inv-loop μ-loop
-unfolding allHex unhex
-loop-holds c = (omega arith, (omega arith, refl, refl), refl)
+loop-holds c = (omega arith, none-spelled (c .before .before .args .cs .now) (c .before .before .args .bytes .now), refl)
 
 mul-value : tie.Need-mul-value Inv-loop μ-loop
 mul-value c = omega arith

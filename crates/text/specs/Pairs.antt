@@ -1,14 +1,31 @@
--- Bytes spelled pair by pair.
+-- Laws of hex: bytes spelled pair by pair.
 use mathlib.Core.Path.{_≡_, refl, sym, ap, _∙_}
-use mathlib.Core.Bool.{Bool, true, false, _&&_}
+use mathlib.Core.Bool.{Bool, true, false, _&&_, true≢false}
 use mathlib.Core.List.{List, [], _∷_, _++_}
-use Prim.Native.Nat.{ℕ, suc, _+_, _*_, _%_, _≤_, _<_}
+use Prim.Native.Nat.{ℕ, zero, suc, _+_, _*_, _%_, _≤_, _<_, zero-le}
+use native.Mathlib.Nat.{not-suc-le-zero, le-of-suc-le-suc}
 use native.Mathlib.Numerals.{add-one}
 use native.Mathlib.Omega.{arith}
 use lib.ListN.{length, take, drop, getD, set, take-append-drop}
 use lib.Seq.{take-suc, drop-cons, take-suc-set, append-snoc, length-take-le}
 use borrow.Author.Tests.{lt-ltb, le-ltb}
 use Rattle.text.specs.Digits.{hexValue, isHex, allHex, unhex}
+
+-- ---- digits
+
+-- the first is a digit, and so are the others
+pub hex-cons : (c : ℕ) (cs : List ℕ) → allHex (c ∷ cs) ≡ true → (isHex c ≡ true) × (allHex cs ≡ true)
+unfolding allHex
+hex-cons c cs = go (isHex c)
+  where
+    go : (t : Bool) → (t && allHex cs) ≡ true → (t ≡ true) × (allHex cs ≡ true)
+    go true e = (refl, e)
+    go false e = absurd (true≢false (sym e))
+
+pub digit-at : (cs : List ℕ) (i : ℕ) → allHex cs ≡ true → i < length cs → isHex (getD cs i 0) ≡ true
+digit-at [] i h l = absurd (not-suc-le-zero l)
+digit-at (c ∷ cs) zero h l = hex-cons c cs h .0
+digit-at (c ∷ cs) (suc i) h l = digit-at cs i (hex-cons c cs h .1) (le-of-suc-le-suc l)
 
 and-assoc : (a b c : Bool) → (a && b && c) ≡ (a && (b && c))
 and-assoc true b c = refl
@@ -38,9 +55,15 @@ rest-at cs n h =
     let h′ : n < length cs = omega arith in
     drop-cons cs n 0 h′ ∙ ap (λ (l : List ℕ). getD cs n 0 ∷ l) (rw (← one) (drop-cons cs (n + 1) 0 h))
 
+-- ---- pairs
+
 -- i bytes spelled by the first i pairs
 abbrev pub Run : List ℕ → ℕ → List ℕ → Type 0
 Run cs i bytes = (i * 2 ≤ length cs) × (allHex (take (i * 2) cs) ≡ true) × (take i bytes ≡ unhex (take (i * 2) cs))
+
+pub none-spelled : (cs bytes : List ℕ) → Run cs 0 bytes
+unfolding allHex unhex
+none-spelled cs bytes = (zero-le, refl, refl)
 
 module _ (cs bytes : List ℕ) (i : ℕ) (r : Run cs i bytes) (more : i * 2 + 1 < length cs) where
   next-pair : take ((i + 1) * 2) cs ≡ take (i * 2) cs ++ (getD cs (i * 2) 0 ∷ getD cs (i * 2 + 1) 0 ∷ [])

@@ -35,6 +35,7 @@ use Rattle.packet.specs.Writing.{writing, bytesOf}
 use Rattle.packet.specs.Normal.{normal}
 use Rattle.tlp.specs.Frames.{Bytes}
 use Rattle.tlp.specs.Fields.{Typed}
+use Rattle.tlp.specs.Forbidden.{readingByPhrases}
 use Rattle.tlp.specs.Words.{areBytes}
 use Rattle.tlp.specs.Translations.{translationAt}
 use Rattle.atc.specs.declared.Entry.{Entry}
@@ -72,13 +73,14 @@ Demand1 = (f : Function) (c : Command) (bytes out : List ℕ) (n : ℕ) → step
 -- ---- DEMAND 2: packets and states are those of the papers, and no other.
 -- That is what the definitions say which the contracts cite: packet/specs (`reading`, `writing`) and card/specs/Call.antt (`step`, and what it leads to); they have to be read. Here
 -- stands that the code of `card::call` meets its contract, which is to do what `step` says, and what shows that the definitions fit together: what is written reads as the same packet;
--- what is read can be written, and gives the same bytes but for those that no field names; and every state that calls reach has 32 slots with at most one entry a unit, 32 tags, 32
--- groups and no more credits in use than were allowed.
+-- what is read can be written, and gives the same bytes but for those that no field names; reading gives 4 for just the values that 01 forbids, said once more phrase by phrase; and
+-- every state that calls reach has 32 slots with at most one entry a unit, 32 tags, 32 groups and no more credits in use than were allowed.
 
 pub record Demand2 : Type 2 where
   pub code : {M : Type 1} → CallMeetsItsContract M
   pub written : (p : Packet) (payload : List ℕ) (room n : ℕ) → Typed p → writing p (length payload) room ≡ gives n → (reading (bytesOf p payload) ≡ gives p) × (payloadIn (bytesOf p payload) ≡ payload)
   pub read : (b : List ℕ) (p : Packet) → Bytes b → reading b ≡ gives p → (writing p (length (payloadIn b)) (length b) ≡ gives (length b)) × (bytesOf p (payloadIn b) ≡ normal b)
+  pub forbids : (b : List ℕ) → reading b ≡ readingByPhrases b
   pub starts : (id stu : ℕ) (rcb : Rcb) → Sound (fresh id stu rcb)
   pub keeps : (f : Function) (c : Command) (bytes out : List ℕ) → Sound f → Sound (step f c bytes out .state)
 

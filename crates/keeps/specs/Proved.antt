@@ -1,4 +1,5 @@
 -- The three demands are met. Nothing is assumed.
+use Rattle.tlp.specs.Forbidden.{reads-by-phrases}
 use Rattle.tlp.specs.Trips.{written-reads, written-payload, read-written, read-writes}
 use native.Mathlib.Omega.{arith}
 use lib.ListN.{length}
@@ -20,6 +21,7 @@ demand-2 =
       code = met;
       written = λ p payload room n ty e. (written-reads p payload room n ty e, written-payload p payload room n ty e);
       read = λ b p h e. (read-writes b p (length b) h e (omega arith), read-written b p h e);
+      forbids = reads-by-phrases;
       starts = fresh-sound;
       keeps = sound-kept;
     }

@@ -4,6 +4,7 @@ pub mod Masks
 pub mod Tidy
 pub mod Refit
 pub mod Trips
+pub mod Forbidden
 pub mod Laws
 pub mod Settled
 pub mod Translations

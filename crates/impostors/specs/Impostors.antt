@@ -42,7 +42,7 @@ use Rattle.snoops.specs.Invalidate.{snoopRange, invalidated}
 use Rattle.receives.specs.Receive.{taken, received}
 use Rattle.card.specs.Call.{calling}
 use Rattle.atc.specs.declared.Entry.{Entry}
-use Rattle.atc.specs.Cache.{slotAt, nothing}
+use Rattle.atc.specs.Cache.{slotAt, nothing, emptied}
 use Rattle.tags.specs.declared.Open.{Open}
 use Rattle.tags.specs.declared.Open.the-variants.{Free, Ask as Asking, Read as Reading}
 use Rattle.tags.specs.declared.Place.{Place}
@@ -97,6 +97,12 @@ withBuffer r b = record { state = r .state; says = r .says; sent = r .sent; buff
 -- it keeps the entries that an Invalidate Request should drop
 abbrev keeper : Function → Call → Result
 keeper f c = let r = honest f c in by (brings c) r (withState r (withTables (r .state) (f .cache) (r .state .places))) r r
+
+-- it drops them, and all others, only when it drains
+abbrev tardy : Function → Call → Result
+tardy f c =
+    let r = honest f c in
+    by (brings c) r (withState r (withTables (r .state) (f .cache) (r .state .places))) (withState r (withTables (r .state) (emptied (r .state .cache .hand)) (r .state .places))) r
 
 -- an Invalidate Request leaves the tags otherwise than it should
 abbrev marking : (Open → Open) → Function → Call → Result
@@ -271,6 +277,7 @@ shown M d before c since z j e p o = brought M j e _ since (d .new .entries befo
 -- none of them keeps demand 3
 pub record Refused : Type 1 where
   pub keeper : Order (cardBy keeper) → ⊥
+  pub tardy : Order (cardBy tardy) → ⊥
   pub lively : Order (cardBy lively) → ⊥
   pub hasty : Order (cardBy hasty) → ⊥
   pub early : Order (cardBy early) → ⊥
@@ -293,6 +300,7 @@ unfolding frameOf choose bodyIn shaped allowedBody withinBody loadOf formOf fram
 refused =
     record {
       keeper = λ d. no-tf (sym (shown (cardBy keeper) d warm request (drain ∷ bothParts ∷ []) (record { arrived = record { unbroken = (refl, (refl, (refl, (refl, (refl, (refl, tt)))))); accepted = refl; goesOn = (refl, (refl, tt)) }; sent = lit< tt }) 0 _ refl refl));
+      tardy = λ d. d .new .sooner (granted ∷ ask ∷ enable ∷ []) request [] three page (record { unbroken = (refl, (refl, (refl, (refl, tt)))); accepted = refl; goesOn = tt }) 0 _ refl refl;
       lively = λ d. no-tf (sym (shown (cardBy lively) d warm request (grantedLate ∷ drain ∷ bothParts ∷ []) (record { arrived = record { unbroken = (refl, (refl, (refl, (refl, (refl, (refl, tt)))))); accepted = refl; goesOn = (refl, (refl, (refl, tt))) }; sent = lit< tt }) 0 _ refl refl));
       hasty = λ d. no-some (sym (d .new .reads warm request (drain ∷ []) three page (record { arrived = record { unbroken = (refl, (refl, (refl, (refl, (refl, (refl, tt)))))); accepted = refl; goesOn = (refl, tt) }; sent = lit< tt }) 0));
       early = λ d. no-some (sym (d .new .reads warm request (drain ∷ firstPart ∷ []) three page (record { arrived = record { unbroken = (refl, (refl, (refl, (refl, (refl, (refl, tt)))))); accepted = refl; goesOn = (refl, (refl, tt)) }; sent = lit< tt }) 0));

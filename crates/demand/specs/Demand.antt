@@ -23,22 +23,30 @@ noneBelow (suc n) f = not (f n) && noneBelow n f
 
 -- What packets speak of, and what follows from it.
 pub record Terms : Type 1 where
-  -- an invalidated range, rounded up to the unit in force; what a read asks for; what a Translation Request asks for; what a completion
-  -- with data holds; a cache entry
+  -- an invalidated range, rounded up to the unit in force
   pub Area : Type 0
-  pub Read : Type 0
+  -- what a read or a write asks for
+  pub Access : Type 0
+  -- what a Translation Request asks for
   pub Ask : Type 0
+  -- what a completion with data holds
   pub Data : Type 0
+  -- a cache entry
   pub Entry : Type 0
-  -- what the read asks for, this entry's unit, overlaps the area
-  pub meets : Area → Read → Bool
+  -- what the access asks for overlaps the area
+  pub meets : Area → Access → Bool
+  -- the entry's unit overlaps the area
   pub overlaps : Area → Entry → Bool
-  -- how many bytes a read asks for, how many a completion holds, and whether it is the last of its Translation Request
-  pub wanted : Read → ℕ
+  -- how many bytes a read asks for
+  pub wanted : Access → ℕ
+  -- how many bytes a completion holds
   pub size : Data → ℕ
-  pub isLast : Data → Bool
+  -- its Byte Count: how many are due, these included
+  pub count : Data → ℕ
   -- for what was asked, and after so many bytes of completions to it, this one grants the entry
   pub grants : Ask → ℕ → Data → Entry → Bool
+  -- an access that asks for this, sent to this address, goes where the entry says
+  pub serves : Entry → Access → ℕ → Bool
 
 -- what an Invalidate Request is known by: its ITag, and the agent that sent it
 pub record Ticket : Type 0 where
@@ -54,19 +62,21 @@ pub data Taken (T : Terms) : Type 0 where
   CPL : ℕ → Option (T .Data) → Taken T
   -- an Invalidate Request
   INV : Ticket → T .Area → Taken T
-  -- a drain call, for the ITags of these numbers
+  -- a drain call, for the ITags of these numbers (the card's is for all)
   DRAIN : (ℕ → Bool) → Taken T
 
 -- the packet that a call sent
 pub data Sent (T : Terms) : Type 0 where
   -- a Translation Request with this tag
   TR : ℕ → T .Ask → Sent T
-  -- a read with this tag: translated (AT 10) or not, and what it asks for
-  READ : ℕ → Bool → T .Read → Sent T
+  -- a read with this tag: translated (AT 10) or not, what it asks for, and the address that it is sent to
+  READ : ℕ → Bool → T .Access → ℕ → Sent T
+  -- a write, likewise
+  WRITE : Bool → T .Access → ℕ → Sent T
   -- an Invalidate Completion to this agent, for the ITags of these numbers
   IC : ℕ → (ℕ → Bool) → Sent T
 
--- What is seen of a call. Neither part hides the other. It took none of those, or was refused; it sent none of those.
+-- What is seen of a call. Neither part hides the other: `none` where it brought none of those or was refused, and where it sent none of those.
 pub record Seen (T : Terms) : Type 0 where
   pub took : Option (Taken T)
   pub sent : Option (Sent T)
@@ -76,19 +86,19 @@ pub record Seen (T : Terms) : Type 0 where
 -- an open request: a Translation Request, and the bytes that came for it; or a read, and the bytes that are still due
 pub data Pending (T : Terms) : Type 0 where
   translation : T .Ask → ℕ → Pending T
-  fetch : Bool → T .Read → ℕ → Pending T
+  fetch : Bool → T .Access → ℕ → Pending T
 
 module _ {T : Terms} where
   abbrev pub isOpen : Option (Pending T) → Bool
   isOpen none = false
   isOpen (some o) = true
 
-  -- what a completion leaves open: one without data nothing; of a read, what is due beyond its bytes
+  -- what a completion leaves open: one without data nothing; of a read, what is due beyond its bytes, where it says how many are due
   abbrev pub leaves : Option (T .Data) → Option (Pending T) → Option (Pending T)
   leaves d none = none
   leaves none (some o) = none
-  leaves (some d) (some (translation q n)) = cond (T .isLast d) none (some (translation q (n + T .size d)))
-  leaves (some d) (some (fetch x b n)) = cond (leb n (T .size d)) none (some (fetch x b (n - T .size d)))
+  leaves (some d) (some (translation q n)) = cond (eqb (T .count d) (T .size d)) none (some (translation q (n + T .size d)))
+  leaves (some d) (some (fetch x b n)) = cond (eqb (T .count d) n) (cond (leb n (T .size d)) none (some (fetch x b (n - T .size d)))) (some (fetch x b n))
 
   -- the open request o of tag t, after what a call took and after what it sent
   abbrev pub onTaken : ℕ → Option (Taken T) → Option (Pending T) → Option (Pending T)
@@ -100,7 +110,8 @@ module _ {T : Terms} where
   abbrev pub onSent : ℕ → Option (Sent T) → Option (Pending T) → Option (Pending T)
   onSent t none o = o
   onSent t (some (TR u q)) o = cond (eqb t u) (some (translation q 0)) o
-  onSent t (some (READ u x b)) o = cond (eqb t u) (some (fetch x b (T .wanted b))) o
+  onSent t (some (READ u x b k)) o = cond (eqb t u) (some (fetch x b (T .wanted b))) o
+  onSent t (some (WRITE x b k)) o = o
   onSent t (some (IC g v)) o = o
 
   -- the request of tag t that is open after the calls h
@@ -123,8 +134,17 @@ module _ {T : Terms} where
   abbrev pub uses : ℕ → Option (Sent T) → Bool
   uses t none = false
   uses t (some (TR u q)) = eqb t u
-  uses t (some (READ u x b)) = eqb t u
+  uses t (some (READ u x b k)) = eqb t u
+  uses t (some (WRITE x b k)) = false
   uses t (some (IC g v)) = false
+
+  -- the translated access that the call sends, if it sends one, and its address
+  abbrev pub reaches : Option (Sent T) → Option (T .Access × ℕ)
+  reaches none = none
+  reaches (some (TR u q)) = none
+  reaches (some (READ u x b k)) = cond x (some (b, k)) none
+  reaches (some (WRITE x b k)) = cond x (some (b, k)) none
+  reaches (some (IC g v)) = none
 
   -- the area of the Invalidate Request of Ticket i that the call accepts, if it accepts one
   abbrev pub accepts : Ticket → Option (Taken T) → Option (T .Area)
@@ -144,7 +164,8 @@ module _ {T : Terms} where
   abbrev pub completes : Ticket → Option (Sent T) → Bool
   completes i none = false
   completes i (some (TR t q)) = false
-  completes i (some (READ t x b)) = false
+  completes i (some (READ t x b k)) = false
+  completes i (some (WRITE x b k)) = false
   completes i (some (IC g v)) = eqb (i .agent) g && v (i .number)
 
   -- Invalidate Requests of Ticket i accepted, and completions sent for it
@@ -156,7 +177,7 @@ module _ {T : Terms} where
   completions i [] = 0
   completions i (x ∷ h) = cond (completes i (x .sent)) 1 0 + completions i h
 
-  -- of the overlapping translated reads that were open when Ticket i's latest request came, that of tag t, while it is open still
+  -- of the overlapping translated reads that were open when Ticket i's latest request came, that of tag t, while it is open still: what `remains` leaves of it, told from the whole history
   abbrev pub older : Ticket → ℕ → List (Seen T) → Option (Pending T)
   older i t [] = none
   older i t (x ∷ h) = given (accepts i (x .took)) (λ a. readIn a (openAt t h)) (onTaken t (x .took) (older i t h))
@@ -197,8 +218,8 @@ pub record Observer (T : Terms) : Type 1 where
   pub sent : Notes → Call → List ℕ → Option (Sent T)
   pub note : Notes → Call → List ℕ → Notes
   pub atFirst : Notes
-  -- these bytes are a packet, or none
-  pub isPacket : List ℕ → Bool
+  -- these bytes are a packet of the Function's, or none
+  pub isPacket : Notes → List ℕ → Bool
   -- how many tags there are
   pub tags : ℕ
 
@@ -254,6 +275,13 @@ module _ {T : Terms} {R : Observer T} (M : Machine R) where
   CameFrom j e s (c ∷ cs) =
       (brings e (seen (after s cs) c .took) (history s cs) ≡ true) ⊎ ((M .held (after s cs .fn) j ≡ some e) × CameFrom j e s cs)
 
+  -- an entry that the cache holds serves the access
+  pub record Served (f : M .State) (b : T .Access) (k : ℕ) : Type 0 where
+    pub slot : ℕ
+    pub entry : T .Entry
+    pub held : M .held f slot ≡ some entry
+    pub serves : T .serves entry b k ≡ true
+
   -- After the calls `before`, made from s, the call c brought an Invalidate Request of this ticket for the area a, and it was accepted. Since then came the
   -- calls `since`, with no reset among them all.
   pub record Arrived (s : Bench M) (before : List (R .Call)) (c : R .Call) (since : List (R .Call)) (i : Ticket) (a : T .Area) : Type 0 where
@@ -287,16 +315,19 @@ module _ {T : Terms} {R : Observer T} (M : Machine R) where
     pub agent : (calls : List (R .Call)) → Unbroken s calls → (i k : Ticket) → 0 < requests i (history s calls) → 0 < requests k (history s calls) → i .agent ≡ k .agent
     -- beyond the letter: the entries are new ones already from the moment the request arrives
     pub sooner : (before : List (R .Call)) (c : R .Call) (since : List (R .Call)) (i : Ticket) (a : T .Area) → Arrived s before c since i a → OnlyNewEntries s before c since a
-    -- And nothing escapes the eye. A request goes out with one of the tags, and not with one that is open, so that a completion is for one request;
+    -- every translated access goes through an entry that the cache held: so what is not in the slots is not used
+    pub through : (calls : List (R .Call)) (c : R .Call) → Unbroken s (c ∷ calls) → (b : T .Access) (k : ℕ) → reaches (seen (after s calls) c .sent) ≡ some (b, k)
+        → Served (after s calls .fn) b k
+    -- And no request, read or completion goes out unseen. A request goes out with one of the tags, and not with one that is open, so that a completion is for one request;
     pub tags : (calls : List (R .Call)) (c : R .Call) → Unbroken s (c ∷ calls) → (t : ℕ) → uses t (seen (after s calls) c .sent) ≡ true
         → (t < R .tags) × (openAt t (history s calls) ≡ none)
-    -- whatever is sent is a packet;
-    pub legible : (calls : List (R .Call)) (c : R .Call) → Unbroken s (c ∷ calls) → R .isPacket (packet (after s calls) c) ≡ true
+    -- whatever is sent is a packet of the Function's;
+    pub legible : (calls : List (R .Call)) (c : R .Call) → Unbroken s (c ∷ calls) → R .isPacket (after s calls .notes) (packet (after s calls) c) ≡ true
     -- and the call that accepts an Invalidate Request sends nothing, so that all that is sent goes out before it or after it
     pub apart : (calls : List (R .Call)) (c : R .Call) → Unbroken s (c ∷ calls) → (i : Ticket) (a : T .Area) → accepts i (seen (after s calls) c .took) ≡ some a
         → packet (after s calls) c ≡ []
 
-  -- From any state and any notes, once a reset is accepted, which itself sends nothing; and from a new Function.
+  -- From any state and any notes, once a reset is accepted, and it sends nothing; and from a new Function.
   pub record Order : Type 0 where
     pub silent : (s : Bench M) (c : R .Call) → resets s c ≡ true → packet s c ≡ []
     pub reset : (s : Bench M) (c : R .Call) → resets s c ≡ true → OrderFrom (next s c)

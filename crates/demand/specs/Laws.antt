@@ -5,7 +5,7 @@ use mathlib.Core.Bool.{Bool, true, false, not, _&&_}
 use mathlib.Core.Option.{Option, none, some}
 use Prim.Native.Nat.{ℕ, _<_}
 use lib.Dec.{eqb}
-use Rattle.demand.specs.Demand.{Terms, Ticket, Taken, CPL, INV, DRAIN, Seen, Pending, translation, fetch, given, noneBelow, isOpen, leaves, onTaken, onSent, uses, readIn, accepts, drains, completes, gave}
+use Rattle.demand.specs.Demand.{Terms, Ticket, Taken, CPL, INV, DRAIN, Seen, Pending, translation, fetch, given, noneBelow, isOpen, leaves, onTaken, onSent, uses, reaches, readIn, accepts, drains, completes, gave}
 
 pub record View (T : Terms) : Type 0 where
   -- what slot j of the cache holds
@@ -41,6 +41,13 @@ module _ {T : Terms} where
   Apart a (some (translation q n)) = (k : ℕ) (d : T .Data) (e : T .Entry) → T .grants q k d e ≡ true → T .overlaps a e ≡ false
   Apart a (some (fetch x b n)) = Unit {0}
 
+-- an entry that is held serves the access
+pub record Through {T : Terms} (v : View T) (b : T .Access) (k : ℕ) : Type 0 where
+  pub slot : ℕ
+  pub entry : T .Entry
+  pub held : v .held slot ≡ some entry
+  pub serves : T .serves entry b k ≡ true
+
 -- what a call of which x is seen does
 pub record Step {T : Terms} (tags : ℕ) (v w : View T) (x : Seen T) : Type 0 where
   -- the tags
@@ -49,6 +56,7 @@ pub record Step {T : Terms} (tags : ℕ) (v w : View T) (x : Seen T) : Type 0 wh
   pub live : (t : ℕ) → w .live t ≡ true → (v .live t ≡ true) ⊎ (uses t (x .sent) ≡ true)
   -- the cache
   pub slots : (j : ℕ) (e : T .Entry) → w .held j ≡ some e → (v .held j ≡ some e) ⊎ (fills v (x .took) e ≡ true)
+  pub through : (b : T .Access) (k : ℕ) → reaches (x .sent) ≡ some (b, k) → Through v b k
   -- the ITags
   pub waiting : (i : Ticket) → w .waiting i ≡ given (accepts i (x .took)) (λ a. true) (not (completes i (x .sent)) && v .waiting i)
   pub waitsFor : (i : Ticket) (t : ℕ) → w .waiting i ≡ true

@@ -9,8 +9,8 @@ use native.Mathlib.Nat.{zero-add}
 use native.Mathlib.Omega.{arith}
 use borrow.Author.Tests.{eqb-true, eqb-false}
 use lib.Dec.{eqb, leb}
-use Rattle.demand.specs.Demand.{Terms, Ticket, Taken, CPL, INV, DRAIN, Sent, TR, READ, IC, Seen, Pending, translation, fetch, given, noneBelow, isOpen, leaves, onTaken, onSent, openAt, remains, readIn, uses, accepts, drains, completes, requests, completions, older, waits, gave, brings, Observer, Machine, Bench, next, packet, seen, resets, after, history, Unbroken, CameFrom, Arrived, Completed, OnlyNewEntries, NoOldRead, OrderFrom, Order}
-use Rattle.lemmas.specs.Cases.{byCases, and-both}
+use Rattle.demand.specs.Demand.{Terms, Ticket, Taken, CPL, INV, DRAIN, Sent, TR, READ, WRITE, IC, Seen, Pending, translation, fetch, given, noneBelow, isOpen, leaves, onTaken, onSent, openAt, remains, readIn, uses, reaches, accepts, drains, completes, requests, completions, older, waits, gave, brings, Observer, Machine, Bench, Served, next, packet, seen, resets, after, history, Unbroken, CameFrom, Arrived, Completed, OnlyNewEntries, NoOldRead, OrderFrom, Order}
+use Rattle.lemmas.specs.Cases.{byCases, either-case, and-both}
 use Rattle.lemmas.specs.Bools.{no-tf, no-some, cond-same}
 use Rattle.demand.specs.Laws.{View, Step, ends, fills, Apart}
 
@@ -87,13 +87,15 @@ module _ {T : Terms} where
   sent-other : (t : ℕ) (k : Option (Sent T)) (o : Option (Pending T)) → uses t k ≡ false → onSent t k o ≡ o
   sent-other t none o e = refl
   sent-other t (some (TR u q)) o e = rw e refl
-  sent-other t (some (READ u x b)) o e = rw e refl
+  sent-other t (some (READ u x b k)) o e = rw e refl
+  sent-other t (some (WRITE x b k)) o e = refl
   sent-other t (some (IC g v)) o e = refl
 
   sent-new : (t : ℕ) (k : Option (Sent T)) (o p : Option (Pending T)) → uses t k ≡ true → onSent t k o ≡ onSent t k p
   sent-new t none o p e = no-tf (sym e)
   sent-new t (some (TR u q)) o p e = rw e refl
-  sent-new t (some (READ u x b)) o p e = rw e refl
+  sent-new t (some (READ u x b k)) o p e = rw e refl
+  sent-new t (some (WRITE x b k)) o p e = no-tf (sym e)
   sent-new t (some (IC g v)) o p e = no-tf (sym e)
 
   read-is : (a : T .Area) (o : Option (Pending T)) → isOpen (readIn a o) ≡ true → readIn a o ≡ o
@@ -116,8 +118,8 @@ module _ {T : Terms} where
       after-less : (d : Option (T .Data)) (o : Option (Pending T)) → Apart a o → Apart a (leaves d o)
       after-less d none p = tt
       after-less none (some o) p = tt
-      after-less (some d) (some (translation q n)) p = kept (T .isLast d) (translation q (n + T .size d)) p
-      after-less (some d) (some (fetch x b n)) p = kept (leb n (T .size d)) (fetch x b (n - T .size d)) tt
+      after-less (some d) (some (translation q n)) p = kept (eqb (T .count d) (T .size d)) (translation q (n + T .size d)) p
+      after-less (some d) (some (fetch x b n)) p = either-case (Apart a) (eqb (T .count d) n) _ _ (λ e. kept (leb n (T .size d)) (fetch x b (n - T .size d)) tt) (λ e. tt)
 
       at-tag : (b : Bool) → Apart a (cond b (leaves d o) o)
       at-tag true = after-less d o p
@@ -320,7 +322,7 @@ pub record Lawful {T : Terms} {R : Observer T} (M : Machine R) : Type 1 where
   pub Ok : Bench M → Type 0
   pub keeps : (s : Bench M) (c : R .Call) → resets M s c ≡ false → Ok s → Ok (next M s c)
   pub law : (s : Bench M) (c : R .Call) → resets M s c ≡ false → Ok s → Step (R .tags) (view s) (view (next M s c)) (seen M s c)
-  pub legible : (s : Bench M) (c : R .Call) → resets M s c ≡ false → Ok s → R .isPacket (packet M s c) ≡ true
+  pub legible : (s : Bench M) (c : R .Call) → resets M s c ≡ false → Ok s → R .isPacket (s .notes) (packet M s c) ≡ true
   pub apart : (s : Bench M) (c : R .Call) → resets M s c ≡ false → Ok s → (i : Ticket) (a : T .Area) → accepts i (seen M s c .took) ≡ some a → packet M s c ≡ []
   pub silent : (s : Bench M) (c : R .Call) → resets M s c ≡ true → packet M s c ≡ []
   pub reset : (s : Bench M) (c : R .Call) → resets M s c ≡ true → Ok (next M s c) × Blank (view (next M s c))
@@ -430,6 +432,11 @@ module _ {T : Terms} {R : Observer T} (M : Machine R) (L : Lawful M) where
     one-agent : (cs : List (R .Call)) → Unbroken M s cs → (i k : Ticket) → 0 < requests i (history M s cs) → 0 < requests k (history M s cs) → i .agent ≡ k .agent
     one-agent cs u i k m n = some-one (sym (told-run cs u .agent i m) ∙ told-run cs u .agent k n)
 
+    served : (cs : List (R .Call)) (c : R .Call) → Unbroken M s (c ∷ cs) → (b : T .Access) (k : ℕ) → reaches (seen M (after M s cs) c .sent) ≡ some (b, k) → Served M (after M s cs .fn) b k
+    served cs c u b k e =
+        let t = effect s cs c (start-ok .0) u .through b k e in
+        record { slot = t .slot; entry = t .entry; held = L .held (after M s cs) (t .slot) ∙ t .held; serves = t .serves }
+
     pub order-from : OrderFrom M s
     order-from = record {
       entries = λ before c since i a z. new-entries before c since i a (z .arrived);
@@ -437,6 +444,7 @@ module _ {T : Terms} {R : Observer T} (M : Machine R) (L : Lawful M) where
       counts = λ cs u i. told-run cs u .counts i;
       agent = one-agent;
       sooner = new-entries;
+      through = served;
       tags = λ cs c u t e. (effect s cs c (start-ok .0) u .unused t e .0, told-run cs (u .1) .opens t ∙ effect s cs c (start-ok .0) u .unused t e .1);
       legible = λ cs c u. L .legible (after M s cs) c (u .0) (ok-run s cs (start-ok .0) (u .1));
       apart = λ cs c u. L .apart (after M s cs) c (u .0) (ok-run s cs (start-ok .0) (u .1));

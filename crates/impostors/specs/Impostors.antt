@@ -1,14 +1,16 @@
--- Wrong cards, each refused by demand 3 alone, on a run that the checker computes. Each is the card but for what is said of it.
+-- Wrong cards, each refused by demand 3 alone, on a run that the checker computes. Each is the card but for what is said of it, as far as that run goes.
 use mathlib.Core.Path.{_≡_, refl, sym}
 use mathlib.Core.Bool.{Bool, true, false, cond, _||_}
 use mathlib.Core.List.{List, [], _∷_, map}
 use mathlib.Core.Option.{Option, none, some}
-use Prim.Native.Nat.{ℕ}
+use Prim.Native.Nat.{ℕ, _-_}
 use native.Mathlib.Omega.{arith}
-use lib.Dec.{lit<}
-use lib.ListN.{set}
+use lib.Dec.{eqb, leb, lit<}
+use lib.ListN.{length, set}
 use Rattle.packet.specs.declared.Tag.{Tag}
 use Rattle.packet.specs.declared.Access.the-variants.{Read as Fetches}
+use Rattle.packet.specs.declared.Outcome.{Outcome}
+use Rattle.packet.specs.declared.Outcome.the-variants.{Data, Status}
 use Rattle.packet.specs.declared.Body.{Body}
 use Rattle.packet.specs.declared.Body.the-variants.{Tr, Mem, Cpl, Inv, Ic, Prq, Prs}
 use Rattle.packet.specs.declared.Packet.{Packet}
@@ -53,13 +55,14 @@ use Rattle.state.specs.State.{fresh, rcbOf, remade, withTables, withPlace}
 use Rattle.state.specs.Answers.{Result, done, carries, payloadLast}
 use Rattle.accesses.specs.Access.{memoryOf}
 use Rattle.drains.specs.Drain.{completionFrom, readyOf}
-use Rattle.card.specs.declared.Command.the-variants.{Reset, Ask}
+use Rattle.accesses.specs.declared.Way.the-variants.{Write}
+use Rattle.card.specs.declared.Command.the-variants.{Reset, Ask, Access}
 use Rattle.card.specs.Call.{step}
 use Rattle.lemmas.specs.Bools.{no-tf, no-some}
 use Rattle.demand.specs.Demand.{given, Taken, CPL, INV, DRAIN, Machine, Bench, Completed, Order, after}
 use Rattle.demand.specs.Theorem.{broughtIn, brought}
-use Rattle.keeps.specs.Demands.{Call, Cached, terms, isReset, callTaken, observer, heldIn}
-use Rattle.impostors.specs.Runs.{simply, enable, drain, ask, read, granted, grantedLate, firstPart, bothParts, elsewhere, request, another, three, four-of-another, page}
+use Rattle.keeps.specs.Demands.{Call, Cached, terms, isReset, addressFor, callTaken, observer, heldIn}
+use Rattle.impostors.specs.Runs.{simply, enable, drain, ask, read, granted, grantedLate, firstPart, bothParts, nothingSaid, elsewhere, request, another, three, four-of-another, page}
 
 -- the card with another step
 abbrev cardBy : (Function → Call → Result) → Machine observer
@@ -142,6 +145,28 @@ earlyOn f r (some (DRAIN n)) = r
 abbrev early : Function → Call → Result
 early f c = earlyOn f (honest f c) (brings c)
 
+-- it counts the bytes that come for a read, and does not look at how many the completion says are due
+abbrev countedIn : Function → Result → Tag → ℕ → Open → Result
+countedIn f r t n Free = r
+countedIn f r t n (Asking q) = r
+countedIn f r t n (Reading x) =
+    record {
+      state = withPlace f t (cond (leb (x .due) n) Free (Reading (record { address = x .address; bytes = x .bytes; due = x .due - n; translated = x .translated; itags = x .itags })));
+      says = gives payloadLast;
+      sent = 0;
+      buffer = r .buffer;
+    }
+
+abbrev repeaterOn : Function → Result → Option (Taken terms) → Result
+repeaterOn f r none = r
+repeaterOn f r (some (CPL t none)) = r
+repeaterOn f r (some (CPL t (some d))) = countedIn f r (record { 0 = t }) (length (d .load)) (heldAt (f .places) (record { 0 = t }))
+repeaterOn f r (some (INV i a)) = r
+repeaterOn f r (some (DRAIN n)) = r
+
+abbrev repeater : Function → Call → Result
+repeater f c = repeaterOn f (honest f c) (brings c)
+
 -- it accepts an Invalidate Request, does nothing, and sends a completion for no ITag
 abbrev hider : Function → Call → Result
 hider f c = let r = honest f c in by (brings c) r (record { state = f; says = gives (carries 0); sent = 16; buffer = bytesOf (completionFrom 0 (Known 0x0200) 0) [] }) r r
@@ -153,6 +178,14 @@ silent f c = let r = honest f c in by (brings c) r r (record { state = f; says =
 -- it reports a packet's length and writes nothing
 abbrev unwritten : Function → Call → Result
 unwritten f c = let r = honest f c in by (brings c) r r (withBuffer r (c .out)) r
+
+-- its completions are in someone else's name
+abbrev alias : Function → Call → Result
+alias f c = let r = honest f c in by (brings c) r r (withBuffer r (bytesOf (completionFrom 9 (f .agent) (readyOf f)) [])) r
+
+-- they say that they are one of two
+abbrev half : Function → Call → Result
+half f c = let r = honest f c in by (brings c) r r (withBuffer r (set (r .buffer) 11 2)) r
 
 -- its completions go to someone else
 abbrev astray : Function → Call → Result
@@ -167,6 +200,27 @@ abbrev curious : Function → Call → Result
 curious f c =
     let r = honest f c in
     by (brings c) r r r (record { state = r .state; says = gives done; sent = 12; buffer = bytesOf (memoryOf 0 (Fetches (record { 0 = 0 })) 1 (record { address = 0x7000; translated = true })) [] })
+
+-- it takes a completion without data, and status 000, for the end of a read
+abbrev emptyIn : Body → Option ℕ
+emptyIn (Cpl c) = ended (c .outcome)
+  where
+    ended : Outcome → Option ℕ
+    ended (Data words) = none
+    ended (Status status) = cond (eqb status 0) (some (c .tag .0)) none
+emptyIn (Tr t) = none
+emptyIn (Mem m) = none
+emptyIn (Inv i) = none
+emptyIn (Ic i) = none
+emptyIn (Prq q) = none
+emptyIn (Prs s) = none
+
+abbrev emptyFor : Said Packet → Option ℕ
+emptyFor (number n) = none
+emptyFor (gives p) = emptyIn (p .body)
+
+abbrev gullible : Function → Call → Result
+gullible f c = given (emptyFor (reading (c .bytes))) (λ t. record { state = withPlace f (record { 0 = t }) Free; says = gives done; sent = 0; buffer = c .out }) (honest f c)
 
 -- it takes completions for other Functions as its own
 abbrev renamed : Function → ℕ → Function
@@ -215,9 +269,25 @@ lastWord f c = let r = honest f c in by (brings c) r (parting r) r r
 abbrev chatty : Function → Call → Result
 chatty f c = let r = honest f c in cond (isReset (c .command)) (parting r) r
 
+-- it sends that for a write
+abbrev substitute : Function → Call → Result
+substitute f c = given (addressFor Write (c .command)) (λ a. parting (honest f c)) (honest f c)
+
 -- what it sends has a byte 7 that no packet has, so that nobody sees a read
 abbrev mumbler : Function → Call → Result
 mumbler f c = let r = honest f c in by (brings c) r r r (withBuffer r (set (r .buffer) 7 0x0E))
+
+-- it keeps what it should drop, and shows an empty cache
+abbrev shadowCard : Machine observer
+shadowCard =
+    record {
+      State = Function;
+      new = fresh 0 0 (rcbOf 64);
+      state = λ f c. keeper f c .state;
+      answer = λ f c. let r = keeper f c in record { says = r .says; sent = r .sent };
+      buffer = λ f c. keeper f c .buffer;
+      held = λ f j. none;
+    }
 
 -- ---- two that remember more than a Function does
 
@@ -266,10 +336,10 @@ no-cons e = let z : _≡_ {A = ℕ} 0 1 = cc in omega arith
 abbrev warm : List Call
 warm = ask ∷ read ∷ granted ∷ ask ∷ enable ∷ []
 
--- from a new Function, an overlapping entry was brought by one of the calls since the request
 abbrev start : (M : Machine observer) → Bench M
 start M = record { fn = M .new; notes = record { id = 0; stu = 0 } }
 
+-- from a new Function, an overlapping entry was brought by one of the calls since the request
 shown : (M : Machine observer) → Order M → (before : List Call) (c : Call) (since : List Call) → Completed M (start M) before c since three page → (j : ℕ) (e : Cached)
     → M .held (after M (after M (start M) (c ∷ before)) since .fn) j ≡ some e → terms .overlaps page e ≡ true → broughtIn M e (after M (start M) (c ∷ before)) since ≡ true
 shown M d before c since z j e p o = brought M j e _ since (d .new .entries before c since three page z j e p o)
@@ -289,11 +359,17 @@ pub record Refused : Type 1 where
   pub idle : Order idleCard → ⊥
   pub again : Order (cardBy again) → ⊥
   pub curious : Order (cardBy curious) → ⊥
+  pub repeater : Order (cardBy repeater) → ⊥
+  pub gullible : Order (cardBy gullible) → ⊥
   pub anyones : Order (cardBy anyones) → ⊥
   pub obliging : Order (cardBy obliging) → ⊥
   pub lastWord : Order (cardBy lastWord) → ⊥
   pub chatty : Order (cardBy chatty) → ⊥
+  pub substitute : Order (cardBy substitute) → ⊥
   pub mumbler : Order (cardBy mumbler) → ⊥
+  pub alias : Order (cardBy alias) → ⊥
+  pub half : Order (cardBy half) → ⊥
+  pub shadow : Order shadowCard → ⊥
 
 pub refused : Refused
 unfolding frameOf choose bodyIn shaped allowedBody withinBody loadOf formOf framed readForm reading payloadIn wordAt bytesOf writing regionOf roundedOf reachOf runOf movedTo lowestZero sizeOf translationOf firstAt runTo allTo gather translationAt found put unitDropped spanDropped isIn joined without freeTag heldAt placed rangeOf bytesAsked touches snooped allStaled noted onBoundary startsPart secondPart partOf sizeOfAll beginsIn cameOf fitsAt allFit sizeFits judged unitFilled covered unitStep applied sending resetting enabling disabling isBelowTop isAskable asking lookingUp accessing sendingVector fetched unfetched settled translated untranslated completed snoopRange invalidated taken received calling
@@ -312,9 +388,15 @@ refused =
       idle = λ d. let z : _≡_ {A = ℕ} 2 1 = d .new .counts (drain ∷ request ∷ drain ∷ request ∷ []) (refl, (refl, (refl, (refl, tt)))) three in omega arith;
       again = λ d. no-some (sym (d .new .tags (ask ∷ enable ∷ []) ask (refl, (refl, (refl, tt))) 0 refl .1));
       curious = λ d. no-some (sym (d .new .reads (enable ∷ []) request (drain ∷ []) three page (record { arrived = record { unbroken = (refl, (refl, tt)); accepted = refl; goesOn = (refl, tt) }; sent = lit< tt }) 0));
+      repeater = λ d. no-some (sym (d .new .reads warm request (drain ∷ firstPart ∷ firstPart ∷ []) three page (record { arrived = record { unbroken = (refl, (refl, (refl, (refl, (refl, (refl, tt)))))); accepted = refl; goesOn = (refl, (refl, (refl, tt))) }; sent = lit< tt }) 0));
+      gullible = λ d. no-some (sym (d .new .reads warm request (drain ∷ nothingSaid ∷ []) three page (record { arrived = record { unbroken = (refl, (refl, (refl, (refl, (refl, (refl, tt)))))); accepted = refl; goesOn = (refl, (refl, tt)) }; sent = lit< tt }) 0));
       anyones = λ d. no-some (sym (d .new .reads warm request (drain ∷ elsewhere ∷ []) three page (record { arrived = record { unbroken = (refl, (refl, (refl, (refl, (refl, (refl, tt)))))); accepted = refl; goesOn = (refl, (refl, tt)) }; sent = lit< tt }) 0));
       obliging = λ d. let z : _≡_ {A = ℕ} 0x0200 0x0300 = d .new .agent (another ∷ request ∷ []) (refl, (refl, tt)) three four-of-another (lit< tt) (lit< tt) in omega arith;
       lastWord = λ d. no-cons (d .new .apart [] request (refl, tt) three page refl);
       chatty = λ d. no-cons (d .silent (start (cardBy chatty)) (simply (Reset (record { id = 0; stu = 0; rcb = 64 })) refl) refl);
+      substitute = λ d. no-some (sym (d .new .reads (simply (Access (record { way = Write; address = 0x9000; words = 1 })) refl ∷ []) request (drain ∷ []) three page (record { arrived = record { unbroken = (refl, (refl, tt)); accepted = refl; goesOn = (refl, tt) }; sent = lit< tt }) 0));
+      alias = λ d. no-tf (sym (d .new .legible (request ∷ []) drain (refl, (refl, tt))));
+      half = λ d. no-tf (sym (d .new .legible (request ∷ []) drain (refl, (refl, tt))));
+      shadow = λ d. no-some (d .new .through (granted ∷ ask ∷ enable ∷ []) read (refl, (refl, (refl, (refl, tt)))) _ _ refl .held);
       mumbler = λ d. no-tf (sym (d .new .legible (granted ∷ ask ∷ enable ∷ []) read (refl, (refl, (refl, (refl, tt))))));
     }

@@ -89,7 +89,11 @@ lastPart = receive (four 0x4A00_0001 ++ four 0x0008_0004 ++ four 4 ++ four 0x556
 abbrev pub bothParts : Call
 bothParts = receive (four 0x4A00_0002 ++ four 0x0008_0008 ++ four 0 ++ four 0x1122_3344 ++ four 0x5566_7788) refl
 
--- the same, for Function 0300h
+-- no data for tag 0, and status 000, which says nothing
+abbrev pub nothingSaid : Call
+nothingSaid = receive (four 0x0A00_0000 ++ four 0x0008_0008 ++ four 0) refl
+
+-- all eight bytes for Function 0300h
 abbrev pub elsewhere : Call
 elsewhere = receive (four 0x4A00_0002 ++ four 0x0008_0008 ++ four 0x0300_0000 ++ four 0x1122_3344 ++ four 0x5566_7788) refl
 
@@ -150,8 +154,8 @@ large = next card begin (simply (Reset (record { id = 0; stu = 1; rcb = 64 })) r
 abbrev pub warmLarge : List Call
 warmLarge = simply (Access (record { way = Read; address = 0x4000; words = 2 })) refl ∷ receive (four 0x4A00_0002 ++ four 0x0008_0008 ++ four 0x0000_0038 ++ four 0 ++ four 0x0010_0803) refl ∷ ask ∷ enable ∷ []
 
--- What is to be seen there, in this order: the read is open; the request is accepted; the first drains send nothing, the ITag waits, and the same request is refused with 9; then one
--- completion is sent, it waits no longer, and the request can come again; the old reply brings nothing; the new one brings the new page, in slot 0, and is what it came from; the old
+-- What is to be seen there: the read is open; the request is accepted; the first drains send nothing, the ITag waits, and the same request is refused with 9; then one completion is sent,
+-- it waits no longer, and the request can come again; the old entry is gone, the old reply brings nothing; the new one brings the new page, in slot 0, and is what it came from; the old
 -- read is closed. With units of 8192 bytes the request is for the whole unit: its entry is gone at once, and the read in its lower half holds the completion back until it ends.
 pub record Happens : Type 0 where
   pub opens : readIn page (openAt 0 (history card begin warm)) ≡ some (fetch true (record { address = some 0x5000; bytes = 8 }) 8)

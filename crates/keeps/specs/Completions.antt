@@ -86,6 +86,7 @@ module _ (me : Noted) (f : Function) (o : Ok me f) (t : Tag) (own : isTag t ≡ 
           unused = λ u e. no-tf (sym e);
           live = λ u l. inl (byCases (eqb u (t .0)) (λ e. ap liveOf (was (tag u) e) ∙ lived (sym (ap liveOf (at-own me f o t own after (tag u) e)) ∙ l)) (λ e. sym (ap liveOf (at-other me f o t own after (tag u) e)) ∙ l));
           slots = slots;
+          through = λ b k e. no-some e;
           waiting = λ i. refl;
           waitsFor = λ i u w. byCases (eqb u (t .0))
               (λ e. ap (λ (x : Open). isIn (noteOf x) (itag (i .number))) (at-own me f o t own after (tag u) e) ∙ noted (itag (i .number)) ∙ sym (rw (e, was (tag u) e) (ap (λ (x : Bool). x && isIn (noteOf b) (itag (i .number))) (twice (isOpen (leaves {T = terms} d (pendingOf (f .stu) b)))))))

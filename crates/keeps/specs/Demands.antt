@@ -16,7 +16,7 @@ use lib.Dec.{eqb, leb, ltb}
 use lib.ListN.{length}
 use Rattle.span.specs.declared.Range.{Range}
 use Rattle.span.specs.declared.Translation.{Translation}
-use Rattle.span.specs.Range.{regionOf, roundedOf, reachOf, runOf, unitExponent, meetsOf, isWithin}
+use Rattle.span.specs.Range.{regionOf, roundedOf, reachOf, runOf, unitExponent, meetsOf, movedTo, isWithin}
 use Rattle.span.specs.Size.{sizeOf}
 use Rattle.packet.specs.declared.ITag.{ITag}
 use Rattle.packet.specs.declared.Access.{Access}
@@ -35,7 +35,7 @@ use Rattle.packet.specs.Writing.{writing, bytesOf}
 use Rattle.packet.specs.Normal.{normal}
 use Rattle.tlp.specs.Frames.{Bytes}
 use Rattle.tlp.specs.Fields.{Typed}
-use Rattle.tlp.specs.Forbidden.{readingByPhrases}
+use Rattle.tlp.specs.Forbidden.{readingByPhrases, writingByPhrases}
 use Rattle.tlp.specs.Words.{areBytes}
 use Rattle.tlp.specs.Translations.{translationAt}
 use Rattle.atc.specs.declared.Entry.{Entry}
@@ -47,6 +47,8 @@ use Rattle.replies.specs.Fills.{opens, entryOf, regionOver}
 use Rattle.state.specs.declared.Function.{Function}
 use Rattle.state.specs.State.{fresh, rcbOf}
 use Rattle.state.specs.Answers.{Word}
+use Rattle.accesses.specs.declared.Way.{Way}
+use Rattle.accesses.specs.declared.Way.the-variants.{Read as ToRead, Write as ToWrite}
 use Rattle.snoops.specs.Invalidate.{exponentOf}
 use Rattle.card.specs.declared.Command.{Command}
 use Rattle.card.specs.declared.Command.the-variants.{Reset, Enable, Disable, Ask, Access as Accesses, Receive, Drain, PagesOn, PagesOff, PageRequest}
@@ -54,7 +56,7 @@ use Rattle.card.specs.Call.{step}
 use Rattle.card.specs.Refused.{numbersOf}
 use Rattle.card.specs.Kept.{Sound}
 use Rattle.card.proofs.call.Statement.{statement as CallMeetsItsContract}
-use Rattle.demand.specs.Demand.{given, Terms, Taken, CPL, INV, DRAIN, Sent, TR, READ, IC, Observer, Machine, Bench, waits, next, resets, after, history, Unbroken, Order}
+use Rattle.demand.specs.Demand.{given, Terms, Taken, CPL, INV, DRAIN, Sent, TR, READ, WRITE, IC, Observer, Machine, Bench, waits, next, resets, after, history, Unbroken, Order}
 
 -- ---- DEMAND 1: a refusal is one of 17 numbers, of those on its call's own list, and leaves state and buffer as they were.
 -- That nothing traps, overruns or hangs is not said here: it is what a proved function is. No public function has a `requires`, so it holds for all arguments. When a call is
@@ -72,8 +74,9 @@ Demand1 = (f : Function) (c : Command) (bytes out : List ℕ) (n : ℕ) → step
 
 -- ---- DEMAND 2: packets and states are those of the papers, and no other.
 -- That is what the definitions say which the contracts cite: packet/specs (`reading`, `writing`) and card/specs/Call.antt (`step`, and what it leads to); they have to be read. Here
--- stands that the code of `card::call` meets its contract, which is to do what `step` says, and what shows that the definitions fit together: what is written reads as the same packet;
--- what is read can be written, and gives the same bytes but for those that no field names; reading gives 4 for just the values that 01 forbids, said once more phrase by phrase; and
+-- stands that the code of `card::call` meets its contract, which is to do what `step` says (the checker makes that statement of the `ensures` in card/src/lib.rt: the code ends and does
+-- so, whatever memory M it runs in), and what shows that the definitions fit together: what is written reads as the same packet;
+-- what is read can be written, and gives the same bytes but for the bits that no field names; 4 is given for just the values that 01 forbids, said once more phrase by phrase; and
 -- every state that calls reach has 32 slots with at most one entry a unit, 32 tags, 32 groups and no more credits in use than were allowed.
 
 pub record Demand2 : Type 2 where
@@ -81,6 +84,7 @@ pub record Demand2 : Type 2 where
   pub written : (p : Packet) (payload : List ℕ) (room n : ℕ) → Typed p → writing p (length payload) room ≡ gives n → (reading (bytesOf p payload) ≡ gives p) × (payloadIn (bytesOf p payload) ≡ payload)
   pub read : (b : List ℕ) (p : Packet) → Bytes b → reading b ≡ gives p → (writing p (length (payloadIn b)) (length b) ≡ gives (length b)) × (bytesOf p (payloadIn b) ≡ normal b)
   pub forbids : (b : List ℕ) → reading b ≡ readingByPhrases b
+  pub forbidsWriting : (p : Packet) (load room : ℕ) → Typed p → writing p load room ≡ writingByPhrases p load room
   pub starts : (id stu : ℕ) (rcb : Rcb) → Sound (fresh id stu rcb)
   pub keeps : (f : Function) (c : Command) (bytes out : List ℕ) → Sound f → Sound (step f c bytes out .state)
 
@@ -93,7 +97,8 @@ pub record Demand2 : Type 2 where
 --   it waits until an unrefused drain call comes with those reads closed              `waits`; and, below, `NineWhileWaiting`
 --   from one accepted reset to the next                                               `Order` and `Unbroken`
 --
--- and `tags`, `legible`, `apart` and `silent` say that nothing that was sent is overlooked. Here is what it is stated of: what is seen of a call on the card, what its cache
+-- and, beyond these words, `through` says that what is not cached is not used either, and `tags`, `legible`, `apart` and `silent` that no request, read or completion that was sent
+-- is overlooked. Here is what it is stated of: what is seen of a call on the card, what its cache
 -- holds, and what overlaps. As there, lists of calls stand newest first.
 
 -- ---- what packets speak of
@@ -103,7 +108,7 @@ pub record Asked : Type 0 where
   pub stu : ℕ
   pub range : Range
 
--- the bytes that a read asks for, from the address that the call was given on, whatever address was sent; a read that no call asked for could be of any
+-- the bytes that an access asks for, from the address that the call was given on, whatever address was sent; one that no call asked for could be of any
 pub record Wanted : Type 0 where
   pub address : Option ℕ
   pub bytes : ℕ
@@ -139,11 +144,18 @@ isGiven first regions load x =
 abbrev pub isReplied : Asked → ℕ → Reply → Cached → Bool
 isReplied q came d x = eqb (x .stu) (q .stu) && (isWithin (regionOf (x .entry .unit) (unitExponent (q .stu))) (q .range) && isGiven (q .range .first) (came / 8) (d .load) (x .entry))
 
+-- the entry's unit holds the address asked for, and the address sent has the same place in what the unit is translated to
+abbrev pub isServed : Cached → Wanted → ℕ → Bool
+isServed x b to =
+    given (b .address)
+    (λ a. eqb (x .entry .unit) (regionOf a (unitExponent (x .stu)) .first) && (not (x .entry .u) && eqb to (movedTo (x .entry .to) a (unitExponent (x .stu)))))
+    false
+
 abbrev pub terms : Terms
 terms =
     record {
       Area = Range;
-      Read = Wanted;
+      Access = Wanted;
       Ask = Asked;
       Data = Reply;
       Entry = Cached;
@@ -151,8 +163,9 @@ terms =
       overlaps = λ a x. touches (x .stu) a (x .entry);
       wanted = λ b. b .bytes;
       size = λ d. length (d .load);
-      isLast = λ d. eqb (d .count) (length (d .load));
+      count = λ d. d .count;
       grants = isReplied;
+      serves = isServed;
     }
 
 -- ---- what is seen of a call
@@ -216,28 +229,35 @@ notedAfter me (PagesOn n) = me
 notedAfter me PagesOff = me
 notedAfter me (PageRequest q) = me
 
--- the address that an access is given
-abbrev pub addressIn : Command → Option ℕ
-addressIn (Reset a) = none
-addressIn Enable = none
-addressIn Disable = none
-addressIn (Ask a) = none
-addressIn (Accesses a) = some (a .address)
-addressIn Receive = none
-addressIn Drain = none
-addressIn (PagesOn n) = none
-addressIn PagesOff = none
-addressIn (PageRequest q) = none
+-- the address that a call asks to read, or to write
+abbrev pub isWay : Way → Way → Bool
+isWay ToRead ToRead = true
+isWay ToRead ToWrite = false
+isWay ToWrite ToRead = false
+isWay ToWrite ToWrite = true
 
-abbrev pub dataIn : Outcome → ℕ → List ℕ → Option Reply
-dataIn (Data words) count load = some (record { count = count; load = load })
-dataIn (Status status) count load = none
+abbrev pub addressFor : Way → Command → Option ℕ
+addressFor way (Reset a) = none
+addressFor way Enable = none
+addressFor way Disable = none
+addressFor way (Ask a) = none
+addressFor way (Accesses a) = cond (isWay way (a .way)) (some (a .address)) none
+addressFor way Receive = none
+addressFor way Drain = none
+addressFor way (PagesOn n) = none
+addressFor way PagesOff = none
+addressFor way (PageRequest q) = none
+
+-- a completion with data, or with a status that ends its request
+abbrev pub outcomeTaken : ℕ → ℕ → List ℕ → Outcome → Option (Taken terms)
+outcomeTaken tag count load (Data words) = some (CPL tag (some (record { count = count; load = load })))
+outcomeTaken tag count load (Status status) = cond (eqb status 0) none (some (CPL tag none))
 
 -- a completion for this Function, or an Invalidate Request with its range rounded up to the unit, that is received, and from whom
 abbrev pub bodyTaken : Noted → List ℕ → ℕ → Body → Option (Taken terms)
 bodyTaken me load from (Tr t) = none
 bodyTaken me load from (Mem m) = none
-bodyTaken me load from (Cpl c) = cond (eqb (c .requester) (me .id)) (some (CPL (c .tag .0) (dataIn (c .outcome) (c .count) load))) none
+bodyTaken me load from (Cpl c) = cond (eqb (c .requester) (me .id)) (outcomeTaken (c .tag .0) (c .count) load (c .outcome)) none
 bodyTaken me load from (Inv i) =
     some (INV (record { agent = from; number = place (i .itag) }) (roundedOf (i .address) (exponentOf (sizeOf (i .address) (i .sized))) (unitExponent (me .stu))))
 bodyTaken me load from (Ic i) = none
@@ -267,14 +287,14 @@ itag k = record { 0 = k }
 abbrev pub isListed : ℕ → ℕ → Bool
 isListed v k = ltb k 32 && isIn v (itag k)
 
--- a Translation Request, a read or an Invalidate Completion that is sent
-abbrev pub accessSent : Option ℕ → ℕ → Bool → Access → Option (Sent terms)
-accessSent address words translated (Read t) = some (READ (t .0) translated (record { address = address; bytes = 4 * dwordsOf words }))
-accessSent address words translated Write = none
+-- a Translation Request, a read, a write or an Invalidate Completion that is sent
+abbrev pub accessSent : Command → ℕ → ℕ → Bool → Access → Option (Sent terms)
+accessSent c words to translated (Read t) = some (READ (t .0) translated (record { address = addressFor ToRead c; bytes = 4 * dwordsOf words }) to)
+accessSent c words to translated Write = some (WRITE translated (record { address = addressFor ToWrite c; bytes = 4 * dwordsOf words }) to)
 
 abbrev pub bodySent : ℕ → Command → Body → Option (Sent terms)
 bodySent stu c (Tr t) = some (TR (t .tag .0) (record { stu = stu; range = runOf (t .address) (dwordsOf (t .words) / 2 - 1) stu }))
-bodySent stu c (Mem m) = accessSent (addressIn c) (m .words) (m .translated) (m .access)
+bodySent stu c (Mem m) = accessSent c (m .words) (m .address) (m .translated) (m .access)
 bodySent stu c (Cpl x) = none
 bodySent stu c (Inv i) = none
 bodySent stu c (Ic i) = some (IC (i .device) (isListed (i .vector)))
@@ -285,11 +305,25 @@ abbrev pub packetSent : ℕ → Command → Said Packet → Option (Sent terms)
 packetSent stu c (gives p) = bodySent stu c (p .body)
 packetSent stu c (number n) = none
 
--- bytes that read as a packet, or none at all
-abbrev pub isPacket : List ℕ → Bool
-isPacket bytes = eqb (length bytes) 0 || not (isRefused (reading bytes))
+-- a packet in the Function's own name, on the one Traffic Class; an Invalidate Completion says that it is the only one
+abbrev pub isSole : Body → Bool
+isSole (Tr t) = true
+isSole (Mem m) = true
+isSole (Cpl c) = true
+isSole (Inv i) = true
+isSole (Ic i) = eqb (i .cc) 1
+isSole (Prq q) = true
+isSole (Prs s) = true
 
--- Of a call is seen its command, the bytes that it was given and those that it sent, whether it was refused, and the ID and STU of the last reset.
+abbrev pub isOurs : Noted → Said Packet → Bool
+isOurs me (gives p) = eqb (p .head .sender) (me .id) && (eqb (p .head .tc) 0 && isSole (p .body))
+isOurs me (number n) = false
+
+-- bytes that read as such a packet, or none at all
+abbrev pub isPacket : Noted → List ℕ → Bool
+isPacket me bytes = eqb (length bytes) 0 || isOurs me (reading bytes)
+
+-- Of a call is seen its command, the bytes that it was given and those that it sent, whether it was refused, and the ID and STU of the last accepted reset.
 abbrev pub observer : Observer terms
 observer =
     record {
@@ -323,8 +357,8 @@ card =
       held = heldIn;
     }
 
--- After any calls that hold no accepted reset: an Invalidate Request for the Function, whatever its range, is refused with 9 exactly where its ITag waits, read from the calls
--- alone.
+-- After any calls that hold no accepted reset: an Invalidate Request for the Function, whatever its range, is refused with 9 exactly where its ITag, of its agent, waits, read from
+-- the calls alone.
 abbrev pub NineWhileWaiting : Bench card → Type 0
 NineWhileWaiting begin = (calls : List Call) → Unbroken card begin calls → (bytes out : List ℕ) (p : Packet) (i : InvalidateRequest)
     → reading bytes ≡ gives p → p .body ≡ Inv i → i .device ≡ after card begin calls .notes .id

@@ -33,7 +33,7 @@ use Rattle.demand.specs.Laws.{Step}
 use Rattle.demand.specs.Theorem.{none-not}
 use Rattle.tlp.specs.Words.{areBytes}
 use Rattle.keeps.specs.Demands.{isTyped, Call, Noted, itag, isListed}
-use Rattle.keeps.specs.Views.{tag, isAgent, view, Ok, Good, good-plain, good-send}
+use Rattle.keeps.specs.Views.{own-packet, tag, isAgent, view, Ok, Good, good-plain, good-send}
 
 none-all : (n : ℕ) (f : ℕ → Bool) → ((t : ℕ) → t < n → f t ≡ false) → noneBelow n f ≡ true
 none-all zero f h = refl
@@ -122,6 +122,7 @@ module _ (me : Noted) (f : Function) (o : Ok me f) (bytes out : List ℕ) (ty : 
         unused = λ t e. no-tf (sym e);
         live = λ t e. inl e;
         slots = λ j e h. inl h;
+        through = λ b k e. no-some e;
         waiting = λ i. refl;
         waitsFor = λ i t e. refl;
         carried = λ i. sym (ap (λ (x : Bool). view f .waiting i && x) (waits-for-none i) ∙ sym (carries (isAgent (f .agent) (i .agent)) (ltb (i .number) 32) (isIn (f .waiting) (itag (i .number))) (isIn (noted (f .places)) (itag (i .number))))
@@ -141,6 +142,7 @@ module _ (me : Noted) (f : Function) (o : Ok me f) (bytes out : List ℕ) (ty : 
         unused = λ t e. no-tf (sym e);
         live = λ t e. inl e;
         slots = λ j e h. inl h;
+        through = λ b k e. no-some e;
         waiting = λ i. rw (left-in (itag (i .number)), ready-in (itag (i .number))) (stays-by (f .agent) refl i);
         waitsFor = λ i t e. refl;
         carried = λ i. rw (ready-in (itag (i .number)), waits-for-none i) (carries-by (f .agent) refl i);
@@ -167,4 +169,4 @@ module _ (me : Noted) (f : Function) (o : Ok me f) (bytes out : List ℕ) (ty : 
   good-drain =
       does-case _ (eqb (readyOf f) 0) _ _
       (λ e. good-plain me f drain-call _ _ o (idle-step (eqb-true (readyOf f) 0 e)))
-      (λ e. good-send me f drain-call _ _ (completionFrom (f .id) (f .agent) (readyOf f)) [] (typed-completion (headOf (f .id)) (o .id) _ (o .agent) (omega (arith, o .vector, without-le (f .waiting) (noted (f .places))))) left-ok (λ i. refl) sent-step)
+      (λ e. good-send me f drain-call _ _ (completionFrom (f .id) (f .agent) (readyOf f)) [] (typed-completion (headOf (f .id)) (o .id) _ (o .agent) (omega (arith, o .vector, without-le (f .waiting) (noted (f .places))))) (own-packet me (completionFrom (f .id) (f .agent) (readyOf f)) (o .own) refl refl) left-ok (λ i. refl) sent-step)

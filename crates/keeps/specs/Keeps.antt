@@ -77,7 +77,7 @@ module _ (me : Noted) (f : Function) (o : Ok me f) where
           took = cond (isRefused (r .says)) none (callTaken me (c .command) (c .bytes));
           sent = packetSent (me .stu) (c .command) (reading (take (r .sent) (r .buffer)));
         })
-    pub legible : isPacket (take (r .sent) (r .buffer)) ≡ true
+    pub legible : isPacket me (take (r .sent) (r .buffer)) ≡ true
     pub apart : (i : Ticket) (a : Range) → accepts i (cond (isRefused (r .says)) none (callTaken me (c .command) (c .bytes))) ≡ some a → take (r .sent) (r .buffer) ≡ []
 
   done : (c : Call) (s : Said Deed) → Does (Good me f c) s → Done c (ended f (c .out) s)

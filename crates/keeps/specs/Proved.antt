@@ -1,5 +1,5 @@
 -- The three demands are met. Nothing is assumed.
-use Rattle.tlp.specs.Forbidden.{reads-by-phrases}
+use Rattle.tlp.specs.Forbidden.{reads-by-phrases, writes-by-phrases}
 use Rattle.tlp.specs.Trips.{written-reads, written-payload, read-written, read-writes}
 use native.Mathlib.Omega.{arith}
 use lib.ListN.{length}
@@ -22,6 +22,7 @@ demand-2 =
       written = λ p payload room n ty e. (written-reads p payload room n ty e, written-payload p payload room n ty e);
       read = λ b p h e. (read-writes b p (length b) h e (omega arith), read-written b p h e);
       forbids = reads-by-phrases;
+      forbidsWriting = λ p load room ty. writes-by-phrases p ty load room;
       starts = fresh-sound;
       keeps = sound-kept;
     }

@@ -57,7 +57,7 @@ use Rattle.lemmas.specs.Bools.{no-tf, no-some}
 use Rattle.demand.specs.Demand.{CPL, leaves, isOpen}
 use Rattle.demand.specs.Laws.{Step, fills}
 use Rattle.tlp.specs.Words.{areBytes}
-use Rattle.keeps.specs.Demands.{Cached, Reply, terms, isTyped, Call, Noted, dataIn, bodyTaken, heldIn}
+use Rattle.keeps.specs.Demands.{Cached, Reply, terms, isTyped, Call, Noted, outcomeTaken, bodyTaken, heldIn}
 use Rattle.keeps.specs.Views.{pendingOf, liveOf, view, Ok, Good, good-plain, quiet, no-entry}
 use Rattle.keeps.specs.Sends.{same-ok}
 use Rattle.keeps.specs.Placed.{left, left-ok}
@@ -93,7 +93,7 @@ module _ (me : Noted) (f : Function) (o : Ok me f) (bytes out : List ℕ) (ty : 
       own = held-tag (f .places) t used
 
       -- the cache stays
-      same-cache : (d : Option Reply) → dataIn (c .outcome) (c .count) load ≡ d → (enabled : Bool) (after : Open) (w : Word) → pendingOf (f .stu) after ≡ leaves d (pendingOf (f .stu) b) → (liveOf after ≡ true → liveOf b ≡ true)
+      same-cache : (d : Option Reply) → outcomeTaken (t .0) (c .count) load (c .outcome) ≡ some (CPL (t .0) d) → (enabled : Bool) (after : Open) (w : Word) → pendingOf (f .stu) after ≡ leaves d (pendingOf (f .stu) b) → (liveOf after ≡ true → liveOf b ≡ true)
           → ((q : Tr) → after ≡ Ask q → q .due ≡ 0 → q .whole ≡ 0) → ((i : ITag) → isIn (noteOf after) i ≡ (isOpen (leaves {T = terms} d (pendingOf (f .stu) b)) && isIn (noteOf b) i))
           → Does (Good me f receive-call) (plainly (left f t enabled (f .cache) after) w)
       same-cache d given enabled after w opened lived begins notes =
@@ -102,7 +102,7 @@ module _ (me : Noted) (f : Function) (o : Ok me f) (bytes out : List ℕ) (ty : 
           (rw (mine, given) (left-step me f o t own b holds enabled (f .cache) after d opened lived notes (λ j x h. inl h)))
 
       -- the tag is freed
-      frees : (d : Option Reply) → dataIn (c .outcome) (c .count) load ≡ d → (enabled : Bool) (w : Word) → leaves {T = terms} d (pendingOf (f .stu) b) ≡ none → Does (Good me f receive-call) (plainly (left f t enabled (f .cache) Free) w)
+      frees : (d : Option Reply) → outcomeTaken (t .0) (c .count) load (c .outcome) ≡ some (CPL (t .0) d) → (enabled : Bool) (w : Word) → leaves {T = terms} d (pendingOf (f .stu) b) ≡ none → Does (Good me f receive-call) (plainly (left f t enabled (f .cache) Free) w)
       frees d given enabled w closed =
           same-cache d given enabled Free w (sym closed) (λ l. no-tf (sym l)) (λ q h. let z : _≡_ {A = ℕ} 0 1 = cc in absurd (omega arith))
           (λ i. in-none i ∙ sym (ap (λ (x : Option _). isOpen x && isIn (noteOf b) i) closed))
@@ -115,16 +115,16 @@ module _ (me : Noted) (f : Function) (o : Ok me f) (bytes out : List ℕ) (ty : 
       for-read : (x : Outcome) → c .outcome ≡ x → Does (Good me f receive-call) (completedFor f c load x (Read r))
       unfolding fetched unfetched
       for-read (Status status) x =
-          does-case _ (eqb status 0) _ _ (λ z. does-number _ 8) (λ z. frees (Read r) holds is-used none (rw x refl) (f .enabled) _ refl)
+          does-case _ (eqb status 0) _ _ (λ z. does-number _ 8) (λ z. frees (Read r) holds is-used none (rw (x, z) refl) (f .enabled) _ refl)
       for-read (Data words) x =
           does-case _ (eqb (c .count) (r .due)) _ _
           (λ a. does-case _ (leb (length load) (r .due)) _ _
           (λ l. does-case _ (eqb (length load) (r .due)) _ _
           (λ z. let all = eqb-true (length load) (r .due) z in
-          frees (Read r) holds is-used (some (record { count = c .count; load = load })) (rw x refl) (f .enabled) _ (rw (le-leb (r .due) (length load) (omega (arith, all)))))
+          frees (Read r) holds is-used (some (record { count = c .count; load = load })) (rw x refl) (f .enabled) _ (rw (a, le-leb (r .due) (length load) (omega (arith, all)))))
           (λ z. let less : leb (r .due) (length load) ≡ false = lt-leb (r .due) (length load) (below (leb-true (length load) (r .due) l) (eqb-false (length load) (r .due) z)) in
           same-cache (Read r) holds is-used (some (record { count = c .count; load = load })) (rw x refl) (f .enabled) (Read (stillDue r (r .due - length load))) _
-          (rw less) (λ h. no-tf (sym h)) (λ q h. let z : _≡_ {A = ℕ} 0 1 = cc in absurd (omega arith)) (λ i. rw less)))
+          (rw (a, less)) (λ h. no-tf (sym h)) (λ q h. let z : _≡_ {A = ℕ} 0 1 = cc in absurd (omega arith)) (λ i. rw (a, less))))
           (λ l. does-number _ 8))
           (λ a. does-number _ 8)
         where
@@ -149,7 +149,7 @@ module _ (me : Noted) (f : Function) (o : Ok me f) (bytes out : List ℕ) (ty : 
       filled-reached j = ⊎-elim (λ s. rw s (o .reached j)) (⊎-elim (λ s. rw s (lit≤ tt)) (λ b. brought-to q (f .stu) load _ all-bytes b)) (applied-slot q (f .stu) load (f .cache) (o .slots) j)
 
       -- with the translations of a live request applied
-      fills-cache : dataIn (c .outcome) (c .count) load ≡ some reply → isLive f q ≡ true → fits q (f .stu) load ≡ true → (after : Open) (w : Word) → pendingOf (f .stu) after ≡ leaves (some reply) (pendingOf (f .stu) (Ask q))
+      fills-cache : outcomeTaken (t .0) (c .count) load (c .outcome) ≡ some (CPL (t .0) (some reply)) → isLive f q ≡ true → fits q (f .stu) load ≡ true → (after : Open) (w : Word) → pendingOf (f .stu) after ≡ leaves (some reply) (pendingOf (f .stu) (Ask q))
           → (liveOf after ≡ true → liveOf (Ask q) ≡ true) → ((q : Tr) → after ≡ Ask q → q .due ≡ 0 → q .whole ≡ 0) → ((i : ITag) → isIn (noteOf after) i ≡ false)
           → Does (Good me f receive-call) (plainly (left f t (f .enabled) filled-cache after) w)
       fills-cache given live fit after w opened lived begins notes =
@@ -168,7 +168,7 @@ module _ (me : Noted) (f : Function) (o : Ok me f) (bytes out : List ℕ) (ty : 
               (applied-slot q (f .stu) load (f .cache) (o .slots) j)
 
       -- a first packet of two leaves the rest due; the last, and the only one, leave nothing
-      for-part : dataIn (c .outcome) (c .count) load ≡ some reply → (x : Part) → judged q (f .stu) (f .rcb) (c .count) (c .lower) load ≡ x → Does (Good me f receive-call) (translatedAs f t q (c .count) load x)
+      for-part : outcomeTaken (t .0) (c .count) load (c .outcome) ≡ some (CPL (t .0) (some reply)) → (x : Part) → judged q (f .stu) (f .rcb) (c .count) (c .lower) load ≡ x → Does (Good me f receive-call) (translatedAs f t q (c .count) load x)
       unfolding settled
       for-part given Misfit j = does-number _ 8
       for-part given Off j = frees (Ask q) holds asks-used (some reply) given (f .enabled) _ (rw (eq-eqb (c .count) (length load) (off-whole q (f .stu) (f .rcb) (c .count) (c .lower) load j)))
@@ -194,8 +194,8 @@ module _ (me : Noted) (f : Function) (o : Ok me f) (bytes out : List ℕ) (ty : 
       for-ask (Status status) x =
           does-case _ (eqb status 0) _ _ (λ z. does-number _ 8)
           (λ z. does-case _ (eqb status 4) _ _
-          (λ y. frees (Ask q) holds asks-used none (rw x refl) (f .enabled) _ refl)
-          (λ y. frees (Ask q) holds asks-used none (rw x refl) false _ refl))
+          (λ y. frees (Ask q) holds asks-used none (rw (x, z) refl) (f .enabled) _ refl)
+          (λ y. frees (Ask q) holds asks-used none (rw (x, z) refl) false _ refl))
 
     completes : Does (Good me f receive-call) (completed f c load)
     unfolding completed

@@ -8,10 +8,10 @@ use Prim.Native.Nat.{ℕ, _-_, _*_, _/_, _^_, _<_, _≤_}
 use native.Mathlib.Omega.{arith}
 use lib.Dec.{eqb, leb, lit≤}
 use lib.ListN.{length}
-use borrow.Author.Tests.{eqb-true, ltb-true, leb-true, ne-eqb}
+use borrow.Author.Tests.{eqb-true, ltb-true, leb-true, eq-eqb, ne-eqb}
 use Rattle.lemmas.specs.Cases.{byCases, and-both, never-both}
 use Rattle.span.specs.declared.Range.{Range}
-use Rattle.span.specs.Range.{runOf, unitExponent}
+use Rattle.span.specs.Range.{runOf, unitExponent, movedTo}
 use Rattle.span.specs.Runs.{moved-lt, run-low-bits}
 use Rattle.packet.specs.declared.ITag.{ITag}
 use Rattle.packet.specs.declared.Tag.{Tag}
@@ -50,11 +50,11 @@ use Rattle.card.specs.declared.Accessing.{Accessing}
 use Rattle.card.specs.declared.Command.{Command}
 use Rattle.card.specs.declared.Command.the-variants.{Enable, Disable, Ask as Asks, Access as Accesses, PagesOn, PagesOff, PageRequest as PageRequests}
 use Rattle.lemmas.specs.Bools.{no-tf, no-some}
-use Rattle.demand.specs.Demand.{Ticket, Sent, TR, READ, Pending, translation, onSent, uses, completes}
-use Rattle.demand.specs.Laws.{Step}
+use Rattle.demand.specs.Demand.{Ticket, Sent, TR, READ, Pending, translation, onSent, uses, reaches, completes}
+use Rattle.demand.specs.Laws.{Step, Through}
 use Rattle.tlp.specs.Words.{areBytes}
-use Rattle.keeps.specs.Demands.{terms, isTyped, Call, Noted, itag}
-use Rattle.keeps.specs.Views.{no-entry, tag, pendingOf, liveOf, view, Ok, Good, good-plain, good-send, quiet}
+use Rattle.keeps.specs.Demands.{Wanted, terms, isTyped, Call, Noted, addressFor, itag}
+use Rattle.keeps.specs.Views.{own-packet, no-entry, tag, pendingOf, liveOf, view, Ok, Good, good-plain, good-send, quiet, writes}
 use Rattle.keeps.specs.Placed.{at-own, at-other, left-ok}
 use Rattle.keeps.specs.Marks.{stale-pending, stale-live, stale-note}
 
@@ -122,6 +122,7 @@ module _ (me : Noted) (f : Function) (o : Ok me f) (bytes out : List ℕ) (octet
         opens = λ t. ap (pendingOf (f .stu)) (staled-held (f .places) (tag t)) ∙ stale-pending (f .stu) (heldAt (f .places) (tag t));
         unused = λ t e. no-tf (sym e);
         live = λ t l. inl (stale-live (heldAt (f .places) (tag t)) (sym (ap liveOf (staled-held (f .places) (tag t))) ∙ l));
+        through = λ b k e. no-some e;
         slots = λ j x h. no-some (sym (no-entry (f .stu) (slotAt (emptied (f .cache .hand) .slots) j) (empty-slot (f .cache .hand) j)) ∙ h);
         waiting = λ i. refl;
         waitsFor = λ i t e. ap (λ (n : ℕ). isIn n (itag (i .number))) (ap noteOf (staled-held (f .places) (tag t)) ∙ stale-note (heldAt (f .places) (tag t)));
@@ -149,14 +150,15 @@ module _ (me : Noted) (f : Function) (o : Ok me f) (t : Tag) (own : isTag t ≡ 
 
   -- a request goes out on a tag that was free
   pub open-step : heldAt (f .places) t ≡ Free → (x : Sent terms) → ((u : ℕ) → uses u (some x) ≡ eqb u (t .0)) → ((u : ℕ) (p : Option (Pending terms)) → onSent u (some x) p ≡ cond (eqb u (t .0)) (pendingOf (f .stu) b) p)
-      → ((i : Ticket) → completes i (some x) ≡ false) → ((i : ITag) → isIn (noteOf b) i ≡ false) → Step 32 (view f) (view (withPlace f t b)) (record { took = none; sent = some x })
-  open-step free x used opened carries unnoted =
+      → ((i : Ticket) → completes i (some x) ≡ false) → ((i : ITag) → isIn (noteOf b) i ≡ false) → ((w : Wanted) (k : ℕ) → reaches (some x) ≡ some (w, k) → Through (view f) w k) → Step 32 (view f) (view (withPlace f t b)) (record { took = none; sent = some x })
+  open-step free x used opened carries unnoted served =
       record {
         opens = λ u. byCases (eqb u (t .0)) (λ e. ap (pendingOf (f .stu)) (at-own me f o t own b (tag u) e) ∙ sym (opened u (pendingOf (f .stu) (heldAt (f .places) (tag u))) ∙ rw e refl))
             (λ e. ap (pendingOf (f .stu)) (at-other me f o t own b (tag u) e) ∙ sym (opened u (pendingOf (f .stu) (heldAt (f .places) (tag u))) ∙ rw e refl));
         unused = λ u e. let same = eqb-true u (t .0) (sym (used u) ∙ e) in rw same (ltb-true (t .0) 32 own, ap (pendingOf (f .stu)) free);
         live = λ u l. byCases (eqb u (t .0)) (λ e. inr (used u ∙ e)) (λ e. inl (sym (ap liveOf (at-other me f o t own b (tag u) e)) ∙ l));
         slots = λ j e h. inl h;
+        through = served;
         waiting = λ i. rw (carries i) refl;
         waitsFor = λ i u w. byCases (eqb u (t .0))
             (λ e. let same = eqb-true u (t .0) e in ap (λ (z : Open). isIn (noteOf z) (itag (i .number))) (at-own me f o t own b (tag u) e) ∙ rw (same, free) (unnoted (itag (i .number)) ∙ sym (in-none (itag (i .number)))))
@@ -191,38 +193,41 @@ module _ (me : Noted) (f : Function) (o : Ok me f) (a : Asking) (bytes out : Lis
       let b = asked (a .address) (a .units - 1) in
       let n = few-units (f .rcb) (f .stu) (a .address) (a .units) few in
       good-send me f ask-call _ _ (requestOf (f .id) t (a .address) (a .units) (a .nowrite)) []
-      (typed-request (headOf (f .id)) (o .id) _ (omega (arith, ltb-true (t .0) 32 own)) (omega (arith, ltb-true (a .address) (2 ^ 64) ty)))
+      (typed-request (headOf (f .id)) (o .id) _ (omega (arith, ltb-true (t .0) 32 own)) (omega (arith, ltb-true (a .address) (2 ^ 64) ty))) (own-packet me (requestOf (f .id) t (a .address) (a .units) (a .nowrite)) (o .own) refl refl)
       (opened-ok me f o t own b (λ q e d. let z : 0 ≡ q .whole = cc in sym z) in-none) (λ i. refl)
       (rw (asks-units (a .units) (n .0), run-low-bits (a .address) (a .units - 1) (me .stu), ← o .unit)
       (open-step me f o t own b (free-tag (f .places) (o .tags) own) (TR (t .0) (record { stu = f .stu; range = runOf (a .address) (a .units - 1) (f .stu) })) (λ u. refl)
-      (λ u p. ap (λ (r : Range). cond {A = Option (Pending terms)} (eqb u (t .0)) (some (translation (record { stu = f .stu; range = r }) 0)) p) (sym (range-run new-request (f .stu)))) (λ i. refl) in-none)))
+      (λ u p. ap (λ (r : Range). cond {A = Option (Pending terms)} (eqb u (t .0)) (some (translation (record { stu = f .stu; range = r }) 0)) p) (sym (range-run new-request (f .stu)))) (λ i. refl) in-none (λ w k e. no-some e))))
       (λ e. does-number _ 11))
       (λ e. does-number _ 12))
       (λ e. does-number _ 6)
 
 -- ---- access
 
--- where an access goes, and that it is for one DWORD at least
-pub record Goes (words : ℕ) (at : Target) : Type 0 where
-  pub some : 1 ≤ words
+-- where an access goes, that it is for one DWORD at least, and the entry that it goes by
+pub record Goes (f : Function) (address words : ℕ) (at : Target) : Type 0 where
+  pub least : 1 ≤ words
   pub inside : at .address < 18446744073709551616
+  pub by : at .translated ≡ true → (bytes : ℕ) → Through (view f) (record { address = some address; bytes = bytes }) (at .address)
 
 module _ (me : Noted) (f : Function) (o : Ok me f) (a : Accessing) (bytes out : List ℕ) (ty : isTyped (Accesses a) ≡ true) (octets : areBytes bytes ≡ true) where
   abbrev access-call : Call
   access-call = record { command = Accesses a; bytes = bytes; out = out; typed = ty; octets = octets }
 
-  goes : (at : Target) → lookingUp f (a .way) (a .address) (a .words) (length bytes) ≡ gives at → Goes (a .words) at
+  goes : (at : Target) → lookingUp f (a .way) (a .address) (a .words) (length bytes) ≡ gives at → Goes f (a .address) (a .words) at
   unfolding lookingUp
   goes at e =
       let on = demanded (f .enabled) 6 _ e in
       let page = demanded (isInPage (a .address) (a .words)) 12 _ (on .1) in
       let load = demanded (eqb (length bytes) _) 12 _ (page .1) in
       record {
-        some = leb-true 1 (a .words) (and-both (leb 1 (a .words)) _ (page .0) .0);
-        inside = entered (found (f .cache .slots) (unitAt (f .stu) (a .address))) refl (load .1);
+        least = leb-true 1 (a .words) (and-both (leb 1 (a .words)) _ (page .0) .0);
+        inside = entered (found (f .cache .slots) (unitAt (f .stu) (a .address))) refl (load .1) .0;
+        by = entered (found (f .cache .slots) (unitAt (f .stu) (a .address))) refl (load .1) .1;
       }
     where
-      entered : (x : Found) → found (f .cache .slots) (unitAt (f .stu) (a .address)) ≡ x → enteredBy (a .way) (f .stu) (a .address) x ≡ gives at → at .address < 18446744073709551616
+      entered : (x : Found) → found (f .cache .slots) (unitAt (f .stu) (a .address)) ≡ x → enteredBy (a .way) (f .stu) (a .address) x ≡ gives at
+          → (at .address < 18446744073709551616) × (at .translated ≡ true → (bytes : ℕ) → Through (view f) (record { address = some (a .address); bytes = bytes }) (at .address))
       entered Miss h q = let z : _≡_ {A = ℕ} 0 1 = cc in absurd (omega arith)
       entered (Hit x) h q =
           let s = found-is (f .cache .slots) (o .slots) (unitAt (f .stu) (a .address)) x h in
@@ -230,19 +235,48 @@ module _ (me : Noted) (f : Function) (o : Ok me f) (a : Accessing) (bytes out : 
           let to : x .to < 18446744073709551616 = rw there at (o .reached (s .2 .0)) in
           let g = demanded (isAllowed (a .way) x) 14 _ q .1 in
           let same : targetOf (f .stu) (a .address) x ≡ at = cc in
-          rw (← same) (byCases (x .u) (λ u. rw u (ltb-true (a .address) (2 ^ 64) ty)) (λ u. rw u (moved-lt (x .to) (a .address) (unitExponent (f .stu)) to)))
+          rw (← same) (byCases (x .u)
+          (λ u. rw u (ltb-true (a .address) (2 ^ 64) ty, λ e. no-tf (sym e)))
+          (λ u. rw u (
+            moved-lt (x .to) (a .address) (unitExponent (f .stu)) to,
+            λ e bytes. record {
+              slot = s .2 .0;
+              entry = record { stu = f .stu; entry = x };
+              held = rw (there, s .0);
+              serves = rw (eq-eqb (x .unit) (unitAt (f .stu) (a .address)) (s .1), u, eq-eqb (movedTo (x .to) (a .address) (unitExponent (f .stu))) _ refl);
+            },
+          )))
 
-  goes-good : (way : Way) (at : Target) → Goes (a .words) at → Does (Good me f access-call) (going f way at (a .address) (a .words) bytes out)
-  goes-good ToWrite at g = good-send me f access-call _ _ (memoryOf (f .id) Write (a .words) at) bytes (typed-access (headOf (f .id)) (o .id) _ tt (g .inside)) o (λ i. refl) (quiet (view f))
-  goes-good ToRead at g =
+  -- what is sent goes by the entry where it is translated
+  served : (way : Way) → a .way ≡ way → (at : Target) → Goes f (a .address) (a .words) at → (bytes : ℕ) (w : Wanted) (k : ℕ)
+      → cond {A = Option (Wanted × ℕ)} (at .translated) (some (record { address = addressFor way (Accesses a); bytes = bytes }, at .address)) none ≡ some (w, k) → Through (view f) w k
+  served way is at g bytes w k e = byCases (at .translated) (λ t. go t (rw (t, same-way way is) at e)) (λ t. no-some (rw t at e))
+    where
+      same-way : (way : Way) → a .way ≡ way → addressFor way (Accesses a) ≡ some (a .address)
+      same-way ToRead h = rw h
+      same-way ToWrite h = rw h
+
+      go : at .translated ≡ true → _≡_ {A = Option (Wanted × ℕ)} (some (record { address = some (a .address); bytes = bytes }, at .address)) (some (w, k)) → Through (view f) w k
+      go t q =
+          let both : _≡_ {A = Wanted × ℕ} (record { address = some (a .address); bytes = bytes }, at .address) (w, k) = cc in
+          let one : record { address = some (a .address); bytes = bytes } ≡ w = ap (λ (z : Wanted × ℕ). z .0) both in
+          let two : at .address ≡ k = ap (λ (z : Wanted × ℕ). z .1) both in
+          rw (one, two) at (g .by t bytes)
+
+  goes-good : (way : Way) → a .way ≡ way → (at : Target) → Goes f (a .address) (a .words) at → Does (Good me f access-call) (going f way at (a .address) (a .words) bytes out)
+  goes-good ToWrite is at g =
+      good-send me f access-call _ _ (memoryOf (f .id) Write (a .words) at) bytes (typed-access (headOf (f .id)) (o .id) _ tt (g .inside)) (own-packet me (memoryOf (f .id) Write (a .words) at) (o .own) refl refl) o (λ i. refl)
+      (writes (view f) (at .translated) _ (at .address) (served ToWrite is at g _))
+  goes-good ToRead is at g =
       does-case _ (isTag (freeTag (f .places))) _ _
       (λ own. let t = freeTag (f .places) in
       let b = fetching (a .address) (4 * a .words) (at .translated) in
       good-send me f access-call _ _ (memoryOf (f .id) (Fetches t) (a .words) at) bytes
-      (typed-access (headOf (f .id)) (o .id) _ (omega (arith, ltb-true (t .0) 32 own)) (g .inside))
+      (typed-access (headOf (f .id)) (o .id) _ (omega (arith, ltb-true (t .0) 32 own)) (g .inside)) (own-packet me (memoryOf (f .id) (Fetches t) (a .words) at) (o .own) refl refl)
       (opened-ok me f o t own b (λ q e d. let z : _≡_ {A = ℕ} 0 1 = cc in absurd (omega arith)) in-none) (λ i. refl)
-      (rw (ne-eqb (a .words) 0 (omega (arith, g .some)))
-      (open-step me f o t own b (free-tag (f .places) (o .tags) own) (READ (t .0) (at .translated) (record { address = some (a .address); bytes = 4 * a .words })) (λ u. refl) (λ u p. refl) (λ i. refl) in-none)))
+      (rw (is, ne-eqb (a .words) 0 (omega (arith, g .least)))
+      (open-step me f o t own b (free-tag (f .places) (o .tags) own) (READ (t .0) (at .translated) (record { address = some (a .address); bytes = 4 * a .words }) (at .address)) (λ u. refl) (λ u p. refl) (λ i. refl) in-none
+      (λ w k e. served ToRead is at g (4 * a .words) w k (rw is e)))))
       (λ e. does-number _ 11)
 
   pub good-access : Does (Good me f access-call) (accessing f (a .way) (a .address) (a .words) bytes out)
@@ -250,7 +284,7 @@ module _ (me : Noted) (f : Function) (o : Ok me f) (a : Accessing) (bytes out : 
   good-access = go (lookingUp f (a .way) (a .address) (a .words) (length bytes)) refl
     where
       go : (s : Said Target) → lookingUp f (a .way) (a .address) (a .words) (length bytes) ≡ s → Does (Good me f access-call) (goingIf f (a .way) (a .address) (a .words) bytes out s)
-      go (gives at) e = goes-good (a .way) at (goes at e)
+      go (gives at) e = goes-good (a .way) refl at (goes at e)
       go (number n) e = does-number _ n
 
 -- ---- page requests
@@ -267,5 +301,5 @@ module _ (me : Noted) (f : Function) (o : Ok me f) (q : PageRequest) (bytes out 
       does-case _ (isAsked q) _ _
       (λ e. does-case _ (isWaiting (f .pages .groups) (q .index)) _ _ (λ w. does-number _ 16)
       (λ w. does-case _ (isSpent (f .pages .groups) (f .pages .allocation)) _ _ (λ s. does-number _ 16)
-      (λ s. good-send me f page-call _ _ (pageOf (f .id) q) [] (typed-page (headOf (f .id)) (o .id) q (ltb-true (q .page) (2 ^ 64) ty)) (same-ok me f o (f .enabled) (requested (f .pages) q)) (λ i. refl) (quiet (view f)))))
+      (λ s. good-send me f page-call _ _ (pageOf (f .id) q) [] (typed-page (headOf (f .id)) (o .id) q (ltb-true (q .page) (2 ^ 64) ty)) (own-packet me (pageOf (f .id) q) (o .own) refl refl) (same-ok me f o (f .enabled) (requested (f .pages) q)) (λ i. refl) (quiet (view f)))))
       (λ e. does-number _ 12)

@@ -181,6 +181,7 @@ module _ (me : Noted) (f : Function) (o : Ok me f) (from : ℕ) (i : InvalidateR
         unused = λ t e. no-tf (sym e);
         live = λ t l. inl (snoop-live (f .stu) range (i .itag) (heldAt (f .places) (tag t)) (sym (ap liveOf (at-tag (tag t))) ∙ l) .0);
         slots = λ j e h. inl (kept j e h);
+        through = λ b k e. no-some e;
         waiting = gone-waiting;
         waitsFor = λ k t e. noted-then k t e;
         carried = λ k. refl;

@@ -6,6 +6,7 @@ use mathlib.Core.List.{List, [], _++_}
 use mathlib.Core.Option.{Option, none, some}
 use Prim.Native.Nat.{ℕ, _-_, _<_}
 use lib.Dec.{eqb}
+use borrow.Author.Tests.{eq-eqb}
 use lib.ListN.{length, take, drop}
 use Rattle.span.specs.declared.Range.{Range}
 use Rattle.packet.specs.declared.ITag.{ITag}
@@ -31,9 +32,13 @@ use Rattle.state.specs.Answers.{Word, Deed, plainly, sending}
 use Rattle.state.specs.Laws.{Does, does-plain, does-write}
 use Rattle.drains.specs.Drain.{agentId}
 use Rattle.lemmas.specs.Bools.{no-tf, no-some}
-use Rattle.demand.specs.Demand.{Ticket, Sent, Pending, translation, fetch, accepts}
-use Rattle.demand.specs.Laws.{View, Step}
-use Rattle.keeps.specs.Demands.{Asked, Wanted, Cached, terms, Call, Noted, itag, isListed, callTaken, packetSent, isPacket, heldIn}
+use Rattle.demand.specs.Demand.{Ticket, Sent, WRITE, Pending, translation, fetch, accepts}
+use Rattle.demand.specs.Laws.{View, Step, Through}
+use Rattle.keeps.specs.Demands.{Asked, Wanted, Cached, terms, Call, Noted, itag, isListed, callTaken, packetSent, isSole, isOurs, isPacket, heldIn}
+
+-- ---- a packet in the Function's name
+pub own-packet : (me : Noted) (p : Packet) → p .head .sender ≡ me .id → p .head .tc ≡ 0 → isSole (p .body) ≡ true → isOurs me (gives p) ≡ true
+own-packet me p own class sole = rw (eq-eqb (p .head .sender) (me .id) own, eq-eqb (p .head .tc) 0 class, sole)
 
 -- ---- one tag
 
@@ -104,7 +109,7 @@ packetIn c d = take (d .sent) (d .bytes ++ drop (length (d .bytes)) (c .out))
 pub record Good (me : Noted) (f : Function) (c : Call) (d : Deed) : Type 0 where
   pub ok : Ok me (d .state)
   pub step : Step 32 (view f) (view (d .state)) (record { took = callTaken me (c .command) (c .bytes); sent = packetSent (me .stu) (c .command) (reading (packetIn c d)) })
-  pub legible : isPacket (packetIn c d) ≡ true
+  pub legible : isPacket me (packetIn c d) ≡ true
   pub apart : (i : Ticket) (a : Range) → accepts i (callTaken me (c .command) (c .bytes)) ≡ some a → packetIn c d ≡ []
 
 module _ (me : Noted) (f : Function) (c : Call) where
@@ -119,14 +124,14 @@ module _ (me : Noted) (f : Function) (c : Call) where
   good-plain g w o s = does-plain (Good me f c) g w (record { ok = o; step = rw nothing-reads s; legible = refl; apart = λ i a e. refl })
 
   -- what was sent reads as what it is
-  pub good-send : (g : Function) (w : Word) (p : Packet) (load : List ℕ) → Typed p → Ok me g → Alone → Effects g (packetSent (me .stu) (c .command) (gives p)) → Does (Good me f c) (sending g w p load (c .out))
-  good-send g w p load ty o alone s = does-write (Good me f c) g w p load (c .out) one
+  pub good-send : (g : Function) (w : Word) (p : Packet) (load : List ℕ) → Typed p → isOurs me (gives p) ≡ true → Ok me g → Alone → Effects g (packetSent (me .stu) (c .command) (gives p)) → Does (Good me f c) (sending g w p load (c .out))
+  good-send g w p load ty ours o alone s = does-write (Good me f c) g w p load (c .out) one
     where
       one : (n : ℕ) → writing p (length load) (length (c .out)) ≡ gives n → Good me f c (record { state = g; word = w; sent = n; bytes = bytesOf p load })
       one n e =
           let out = take n (bytesOf p load ++ drop (length (bytesOf p load)) (c .out)) in
           let back : reading out ≡ gives p = rw e at (sent-reads p load (c .out) n ty e) in
-          record { ok = o; step = rw back s; legible = rw back (or-true (eqb (length out) 0)); apart = λ i a h. no-some (sym (alone i) ∙ h) }
+          record { ok = o; step = rw back s; legible = rw (back, ours) (or-true (eqb (length out) 0)); apart = λ i a h. no-some (sym (alone i) ∙ h) }
 
 -- nothing is taken or sent, and nothing changes
 pub quiet : (v : View terms) → Step 32 v v (record { took = none; sent = none })
@@ -136,6 +141,26 @@ quiet v =
       unused = λ t e. no-tf (sym e);
       live = λ t e. inl e;
       slots = λ j e h. inl h;
+      through = λ b k e. no-some e;
+      waiting = λ i. refl;
+      waitsFor = λ i t e. refl;
+      carried = λ i. refl;
+      first = λ i a p. no-some p;
+      lasts = λ g e. e;
+      notYet = λ i a p. no-some p;
+      dropped = λ i a p. no-some p;
+      stale = λ i a p. no-some p;
+    }
+
+-- a write goes out, by an entry where it is translated, and nothing changes
+pub writes : (v : View terms) (x : Bool) (b : Wanted) (k : ℕ) → ((w : Wanted) (j : ℕ) → cond {A = Option (Wanted × ℕ)} x (some (b, k)) none ≡ some (w, j) → Through v w j) → Step 32 v v (record { took = none; sent = some (WRITE x b k) })
+writes v x b k served =
+    record {
+      opens = λ t. refl;
+      unused = λ t e. no-tf (sym e);
+      live = λ t e. inl e;
+      slots = λ j e h. inl h;
+      through = served;
       waiting = λ i. refl;
       waitsFor = λ i t e. refl;
       carried = λ i. refl;

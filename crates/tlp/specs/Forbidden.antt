@@ -2,7 +2,7 @@
 use mathlib.Core.Path.{_≡_, refl, sym, ap, _∙_}
 use mathlib.Core.Bool.{Bool, true, false, not, cond, _&&_, _||_}
 use mathlib.Core.List.{List}
-use Prim.Native.Nat.{ℕ, _*_, _/_, _%_, _<_}
+use Prim.Native.Nat.{ℕ, _+_, _*_, _/_, _%_, _<_}
 use native.Mathlib.Omega.{arith}
 use lib.Dec.{eqb, ltb, leb}
 use lib.ListN.{length}
@@ -17,9 +17,10 @@ use Rattle.packet.specs.declared.Frame.{Frame}
 use Rattle.packet.specs.declared.Packet.{Packet}
 use Rattle.packet.specs.Numbers.{Said, gives, number, refuse, demand}
 use Rattle.packet.specs.Frames.{frameOf}
-use Rattle.packet.specs.Forms.{choose, firstOf, lengthOf, enablesOf}
-use Rattle.packet.specs.Kinds.{bodyIn, packetIn, shaped, shortEnough, allowedBody, allowed, within, formOf, framed}
+use Rattle.packet.specs.Forms.{choose, firstOf, lengthOf, enablesOf, fixedOf}
+use Rattle.packet.specs.Kinds.{bodyIn, packetIn, shaped, shortEnough, allowedBody, allowed, within, loadOf, formOf, framed}
 use Rattle.packet.specs.Reading.{readForm, readChoice, reading}
+use Rattle.packet.specs.Writing.{writing, fitting}
 use Rattle.tlp.specs.Fields.{Typed, fields}
 use Rattle.tlp.specs.Refit.{Seven, chosen-by}
 
@@ -70,9 +71,10 @@ at01InAWrite f = isStore f && eqb (f .at) 1
 abbrev pub trLength : Frame → Bool
 trLength f = isTr f && (eqb (f .words % 2) 1 || above32 (f .words))
 
-abbrev pub longPayload : Frame → Bool
-longPayload f = (isMem f || hasData f) && above32 (f .words)
+abbrev pub longLength : Frame → Bool
+longLength f = (isMem f || hasData f) && above32 (f .words)
 
+-- byte 7 of a message is its code: another there is number 2
 abbrev pub otherByte7 : Frame → Bool
 otherByte7 f = (isTr f && not (eqb (f .byte7) 0xFF)) || (isMem f && not (eqb (f .byte7) (cond (eqb (f .words) 1) 0x0F 0xFF)))
 
@@ -99,7 +101,7 @@ forbidden f =
     at11 f
     || (at01InAWrite f
     || (trLength f
-    || (longPayload f
+    || (longLength f
     || (otherByte7 f
     || (upperHalfZero f
     || (invLength f
@@ -286,7 +288,7 @@ joined true false false x e = no-tf (sym e)
 joined false a true x e = refl
 joined false a false x e = no-tf (sym e)
 
--- a packet that reads, but for 1, 2 and 3, is refused with 4 exactly where its header has one of those values
+-- a packet that is not refused with 1, 2 or 3 is refused with 4 exactly where it has one of those values
 pub reads-by-phrases : (b : List ℕ) → reading b ≡ readingByPhrases b
 unfolding reading readForm frameOf
 reads-by-phrases b = ap (λ (x : Said Packet). refuse 1 (ltb (length b) 12) (refuse 1 (ltb 144 (length b)) x)) (go (choose (frameOf b .byte0) (frameOf b .byte7)) refl)
@@ -299,13 +301,30 @@ reads-by-phrases b = ap (λ (x : Said Packet). refuse 1 (ltb (length b) 12) (ref
         let c = rw e at (chosen-by (f .byte0) (f .byte7)) in
         ap (λ (x : Said Packet). demand 1 (eqb (length b) (lengthOf m (f .words))) (demand 3 (eqb (f .marks) 0) x)) (joined (shaped m f) (allowed (packetIn m f)) (forbidden f) (gives (packetIn m f)) (by-phrases f two m (c .0) (c .1)))
 
--- and a packet whose fields lie in their bits may be written exactly where its header would have none
-pub writes-by-phrases : (p : Packet) → Typed p → within p ≡ true → allowed p ≡ not (forbidden (framed (p .head) (p .body)))
-writes-by-phrases p ty w =
-    let bits = and-both (ltb (p .head .tc) 8) _ w in
-    let m = formOf (p .body) in
-    let f = framed (p .head) (p .body) in
-    let whole = fields (p .head) (ltb-true (p .head .tc) 8 (bits .0)) (ty .sender) (p .body) (bits .1) (ty .body) in
-    let same : packetIn m f ≡ p = rw (whole .front, whole .back) in
-    let c = rw (whole .chosen) at (chosen-by (f .byte0) (f .byte7)) in
-    sym (ap (λ (b : Bool). b && allowed (packetIn m f)) (whole .shape) ∙ ap allowed same) ∙ by-phrases f (whole .sound .at) m (c .0) (c .1)
+-- writing with that list, looked for in the frame that would be sent: 12 as it is, then 4 by the phrases, then 17
+abbrev pub writingByPhrases : Packet → ℕ → ℕ → Said ℕ
+writingByPhrases p load room =
+    demand 12 (within p)
+    (demand 12 (eqb load (loadOf (p .body)))
+    (refuse 4 (forbidden (framed (p .head) (p .body)))
+    (fitting (fixedOf (formOf (p .body)) + load) room)))
+
+module _ (p : Packet) (ty : Typed p) where
+  allowed-by-phrases : within p ≡ true → allowed p ≡ not (forbidden (framed (p .head) (p .body)))
+  allowed-by-phrases w =
+      let bits = and-both (ltb (p .head .tc) 8) _ w in
+      let m = formOf (p .body) in
+      let f = framed (p .head) (p .body) in
+      let whole = fields (p .head) (ltb-true (p .head .tc) 8 (bits .0)) (ty .sender) (p .body) (bits .1) (ty .body) in
+      let same : packetIn m f ≡ p = rw (whole .front, whole .back) in
+      let c = rw (whole .chosen) at (chosen-by (f .byte0) (f .byte7)) in
+      sym (ap (λ (b : Bool). b && allowed (packetIn m f)) (whole .shape) ∙ ap allowed same) ∙ by-phrases f (whole .sound .at) m (c .0) (c .1)
+
+  -- and so it is on writing
+  pub writes-by-phrases : (load room : ℕ) → writing p load room ≡ writingByPhrases p load room
+  unfolding writing
+  writes-by-phrases load room = byCases (within p) (λ w. rw (w, allowed-by-phrases w) (ap (λ (x : Said ℕ). demand 12 (eqb load (loadOf (p .body))) x) (turned (forbidden (framed (p .head) (p .body)))))) (λ w. rw w)
+    where
+      turned : (z : Bool) → demand 4 (not z) (fitting (fixedOf (formOf (p .body)) + load) room) ≡ refuse 4 z (fitting (fixedOf (formOf (p .body)) + load) room)
+      turned true = refl
+      turned false = refl

@@ -74,10 +74,10 @@ Demand1 = (f : Function) (c : Command) (bytes out : List ℕ) (n : ℕ) → step
 
 -- ---- DEMAND 2: packets and states are those of the papers, and no other.
 -- That is what the definitions say which the contracts cite: packet/specs (`reading`, `writing`) and card/specs/Call.antt (`step`, and what it leads to); they have to be read. Here
--- stands that the code of `card::call` meets its contract, which is to do what `step` says (the checker makes that statement of the `ensures` in card/src/lib.rt: the code ends and does
--- so, whatever memory M it runs in), and what shows that the definitions fit together: what is written reads as the same packet;
--- what is read can be written, and gives the same bytes but for the bits that no field names; 4 is given for just the values that 01 forbids, said once more phrase by phrase; and
--- every state that calls reach has 32 slots with at most one entry a unit, 32 tags, 32 groups and no more credits in use than were allowed.
+-- stands that the code of `card::call` meets its contract: it ends, and does what `step` says. (The checker makes this statement of the `ensures` in card/src/lib.rt, for every M, the
+-- resources that the program logic reckons with.) And what shows that the definitions fit together: what is written reads as the same packet; what is read can be written, and gives
+-- the same bytes but for the bits that no field names; 4 is given for just the values that 01 forbids, said once more phrase by phrase; and every state that calls reach has 32 slots
+-- with at most one entry a unit, 32 tags, 32 groups and no more credits in use than were allowed.
 
 pub record Demand2 : Type 2 where
   pub code : {M : Type 1} → CallMeetsItsContract M
@@ -98,8 +98,7 @@ pub record Demand2 : Type 2 where
 --   from one accepted reset to the next                                               `Order` and `Unbroken`
 --
 -- and, beyond these words, `through` says that what is not cached is not used either, and `tags`, `legible`, `apart` and `silent` that no request, read or completion that was sent
--- is overlooked. Here is what it is stated of: what is seen of a call on the card, what its cache
--- holds, and what overlaps. As there, lists of calls stand newest first.
+-- is overlooked. Here is what it is stated of: what is seen of a call on the card, what its cache holds, and what overlaps. As there, lists of calls stand newest first.
 
 -- ---- what packets speak of
 

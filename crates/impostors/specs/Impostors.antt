@@ -47,6 +47,7 @@ use Rattle.atc.specs.declared.Entry.{Entry}
 use Rattle.atc.specs.Cache.{slotAt, nothing, emptied}
 use Rattle.tags.specs.declared.Open.{Open}
 use Rattle.tags.specs.declared.Open.the-variants.{Free, Ask as Asking, Read as Reading}
+use Rattle.tags.specs.declared.Fetch.{Fetch}
 use Rattle.tags.specs.declared.Place.{Place}
 use Rattle.tags.specs.Tags.{holding}
 use Rattle.state.specs.declared.Function.{Function}
@@ -129,43 +130,29 @@ unnoted (Reading x) = Reading (record { address = x .address; bytes = x .bytes; 
 abbrev hasty : Function → Call → Result
 hasty = marking unnoted
 
+-- of data for an open read only their number counts, and `left` says what they leave of it
+abbrev leftIn : (Fetch → ℕ → Open) → Function → Result → Tag → ℕ → Open → Result
+leftIn left f r t n Free = r
+leftIn left f r t n (Asking q) = r
+leftIn left f r t n (Reading x) = record { state = withPlace f t (left x n); says = gives payloadLast; sent = 0; buffer = r .buffer }
+
+abbrev countingOn : (Fetch → ℕ → Open) → Function → Result → Option (Taken terms) → Result
+countingOn left f r none = r
+countingOn left f r (some (CPL t none)) = r
+countingOn left f r (some (CPL t (some d))) = leftIn left f r (record { 0 = t }) (length (d .load)) (heldAt (f .places) (record { 0 = t }))
+countingOn left f r (some (INV i a)) = r
+countingOn left f r (some (DRAIN n)) = r
+
+abbrev counting : (Fetch → ℕ → Open) → Function → Call → Result
+counting left f c = countingOn left f (honest f c) (brings c)
+
 -- it calls a read ended after any data for its tag
-abbrev endedIn : Function → Result → Tag → Open → Result
-endedIn f r t Free = r
-endedIn f r t (Asking q) = r
-endedIn f r t (Reading x) = record { state = withPlace f t Free; says = gives payloadLast; sent = 0; buffer = r .buffer }
-
-abbrev earlyOn : Function → Result → Option (Taken terms) → Result
-earlyOn f r none = r
-earlyOn f r (some (CPL t none)) = r
-earlyOn f r (some (CPL t (some d))) = endedIn f r (record { 0 = t }) (heldAt (f .places) (record { 0 = t }))
-earlyOn f r (some (INV i a)) = r
-earlyOn f r (some (DRAIN n)) = r
-
 abbrev early : Function → Call → Result
-early f c = earlyOn f (honest f c) (brings c)
+early = counting (λ x n. Free)
 
 -- it counts the bytes that come for a read, and does not look at how many the completion says are due
-abbrev countedIn : Function → Result → Tag → ℕ → Open → Result
-countedIn f r t n Free = r
-countedIn f r t n (Asking q) = r
-countedIn f r t n (Reading x) =
-    record {
-      state = withPlace f t (cond (leb (x .due) n) Free (Reading (record { address = x .address; bytes = x .bytes; due = x .due - n; translated = x .translated; itags = x .itags })));
-      says = gives payloadLast;
-      sent = 0;
-      buffer = r .buffer;
-    }
-
-abbrev repeaterOn : Function → Result → Option (Taken terms) → Result
-repeaterOn f r none = r
-repeaterOn f r (some (CPL t none)) = r
-repeaterOn f r (some (CPL t (some d))) = countedIn f r (record { 0 = t }) (length (d .load)) (heldAt (f .places) (record { 0 = t }))
-repeaterOn f r (some (INV i a)) = r
-repeaterOn f r (some (DRAIN n)) = r
-
 abbrev repeater : Function → Call → Result
-repeater f c = repeaterOn f (honest f c) (brings c)
+repeater = counting (λ x n. cond (leb (x .due) n) Free (Reading (record { address = x .address; bytes = x .bytes; due = x .due - n; translated = x .translated; itags = x .itags })))
 
 -- it accepts an Invalidate Request, does nothing, and sends a completion for no ITag
 abbrev hider : Function → Call → Result

@@ -159,6 +159,11 @@ mem-long-says false true false = refl
 mem-long-says false false true = refl
 mem-long-says false false false = refl
 
+-- AT rules it out, whatever the upper half and the Length are
+at-says : (l s : Bool) → ((l && false) && s) ≡ false
+at-says true s = refl
+at-says false s = refl
+
 -- ---- form by form
 
 module _ (f : Frame) (h : f .at < 4) where
@@ -183,11 +188,7 @@ module _ (f : Frame) (h : f .at < 4) where
       (λ a. rw a (mem-long-says (ltb 0 (f .dword8)) (eqb (f .byte7) (enablesOf (f .words))) (shortEnough (f .words))))
       (λ a. rw a (tr-long-says (ltb 0 (f .dword8)) (eqb (f .byte7) 0xFF) (eqb (f .words % 2) 0) (shortEnough (f .words))))
       (λ a. rw a (mem-long-says (ltb 0 (f .dword8)) (eqb (f .byte7) (enablesOf (f .words))) (shortEnough (f .words))))
-      (λ a. rw a (and-off (ltb 0 (f .dword8)) (shortEnough (f .words)))))
-    where
-      and-off : (l s : Bool) → ((l && false) && s) ≡ false
-      and-off true s = refl
-      and-off false s = refl
+      (λ a. rw a (at-says (ltb 0 (f .dword8)) (shortEnough (f .words)))))
 
   store-32 : f .byte0 ≡ 0x40 → Says Mwr32
   unfolding shaped bodyIn allowedBody
@@ -205,13 +206,9 @@ module _ (f : Frame) (h : f .at < 4) where
       rw (b, above-is (f .words), zero-is (f .dword8))
       (by-at (f .at) h
       (λ a. rw a (mem-long-says (ltb 0 (f .dword8)) (eqb (f .byte7) (enablesOf (f .words))) (shortEnough (f .words))))
-      (λ a. rw a (and-off (ltb 0 (f .dword8)) (shortEnough (f .words))))
+      (λ a. rw a (at-says (ltb 0 (f .dword8)) (shortEnough (f .words))))
       (λ a. rw a (mem-long-says (ltb 0 (f .dword8)) (eqb (f .byte7) (enablesOf (f .words))) (shortEnough (f .words))))
-      (λ a. rw a (and-off (ltb 0 (f .dword8)) (shortEnough (f .words)))))
-    where
-      and-off : (l s : Bool) → ((l && false) && s) ≡ false
-      and-off true s = refl
-      and-off false s = refl
+      (λ a. rw a (at-says (ltb 0 (f .dword8)) (shortEnough (f .words)))))
 
   no-data : f .byte0 ≡ 0x0A → Says CplNoData
   unfolding shaped bodyIn allowedBody

@@ -81,7 +81,7 @@ def overlap(low, high, other_low, other_high):
 
 
 class Function:
-    """One Function; new, it is as after a reset with ID 0, STU 0, RCB 64."""
+    """One Function. A new one is what a reset to ID 0, STU 0, RCB 64 leaves."""
 
     def __init__(self):
         self._start(0, 0, 64)
@@ -447,7 +447,7 @@ class Function:
         return DONE
 
     def ready(self):
-        """The waiting ITags with no read to wait for, ascending."""
+        """The ITags that wait and that no open read holds back, ascending."""
         held = frozenset()
         for request in self.tags:
             if isinstance(request, OpenRead):

@@ -20,7 +20,7 @@ use Rattle.state.specs.declared.Function.{Function}
 use Rattle.state.specs.State.{headOf, withPlace}
 use Rattle.state.specs.Answers.{Deed, tag, sending}
 
--- N is 1 to RCB/8
+-- how many units may be asked for
 abbrev pub isFew : Rcb → ℕ → Bool
 isFew rcb units = leb 1 units && leb units (boundary rcb / 8)
 

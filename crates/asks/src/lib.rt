@@ -14,7 +14,7 @@ ghost use Prim.Native.Nat.{_-_, _≤_};
 ghost use Rattle.state.specs.Answers.{told, ended};
 ghost use Rattle.asks.specs.Ask.{requestOf, isFew, isBelowTop, isAskable, askFrom, asking};
 
-// N is 1 to RCB/8.
+// How many units may be asked for.
 fn is_few(rcb: Rcb, units: u16) -> bool
     ensures { λ r. ⌜ r ≡ isFew rcb units ⌝ }
 {

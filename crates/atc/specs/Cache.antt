@@ -45,8 +45,8 @@ found slots unit = cond (ltb (slotOf slots unit) 32) (Hit (slotAt slots (slotOf 
 abbrev pub put : Cache → ℕ → Entry → ℕ → Cache
 put c i e hand = record { hand = hand; slots = set (c .slots) i e }
 
--- a fill replaces the entry of its unit, else takes the lowest free slot, else the one that the hand names by its remainder; then alone the hand
--- steps, and from its largest value to 0
+-- A fill goes where its unit has an entry already, or else into the lowest slot that is free. With none free it goes where the hand points, which is a slot by the
+-- hand's remainder; the hand steps then and only then, and wraps at 2 ^ 32.
 unfoldable pub filled : Entry → Cache → Cache
 filled e c =
     cond (ltb (slotOf (c .slots) (e .unit)) 32) (put c (slotOf (c .slots) (e .unit)) e (c .hand))

@@ -95,8 +95,8 @@ pub fn find(slots: [Entry; 32], unit: u64) -> Found
     }
 }
 
-// The entry of the same unit is replaced, else the lowest free slot is taken, else the slot under
-// the hand, which steps.
+// Into the slot of the unit's entry, or else the lowest free one; with none free into the slot that
+// the hand names, and the hand steps.
 pub fn fill(mut c: Cache, e: Entry) -> Cache
     ensures { λ r. ⌜ r ≡ filled e c ⌝ }
 {

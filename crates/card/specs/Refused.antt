@@ -198,7 +198,7 @@ received-numbers f b = go (reading b) (reading-numbers b)
 
 -- ---- all calls
 
--- the numbers of each call, in the order in which they are looked at
+-- The numbers of each call. What is proved of a list is that no other number is given; in which order the tests come is what the call's definition says.
 abbrev pub numbersOf : Command → List ℕ
 numbersOf (Reset a) = 12 ∷ []
 numbersOf Enable = []

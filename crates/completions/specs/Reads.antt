@@ -13,7 +13,7 @@ use Rattle.state.specs.Answers.{Deed, payloadMore, payloadLast, readFailed, pla
 abbrev pub stillDue : Fetch → ℕ → Fetch
 stillDue r due = record { address = r .address; bytes = r .bytes; due = due; translated = r .translated; itags = r .itags }
 
--- with data: Byte Count is what is still due, and no more than that comes; at zero due the tag is freed, and with it what waits for it
+-- with data: Byte Count says what is still due, and the payload is no longer than that; once all has come the tag is free, and holds no ITag back
 unfoldable pub fetched : Function → Tag → Fetch → ℕ → ℕ → Said Deed
 fetched f t r count bytes =
     demand 8 (eqb count (r .due))

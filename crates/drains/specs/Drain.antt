@@ -28,7 +28,7 @@ completionFrom id agent v =
       body = Ic (record { device = agentId agent; cc = 1; vector = v });
     }
 
--- the waiting ITags with no read to wait for
+-- the ITags that wait and that no open read holds back
 abbrev pub readyOf : Function → ℕ
 readyOf f = without (f .waiting) (noted (f .places))
 

@@ -34,7 +34,7 @@ fn completion(id: u16, agent: Agent, v: u32) -> Packet
     }
 }
 
-// The waiting ITags with no read to wait for.
+// The ITags that wait and that no open read holds back.
 pub fn ready(f: Function) -> u32
     ensures { λ r. ⌜ r ≡ readyOf f ⌝ }
 {

@@ -34,7 +34,7 @@ firstOf InvCpl = 0x32
 firstOf PageReq = 0x30
 firstOf PrgResp = 0x32
 
--- Headers are 12 bytes for 00h, 40h, 0Ah and 4Ah, and 16 for the rest.
+-- the length of a form's header: 12 bytes where the address has 32 bits and in completions, else 16
 abbrev pub headerOf : Form → ℕ
 headerOf Mrd32 = 12
 headerOf Mrd64 = 16
@@ -47,7 +47,7 @@ headerOf InvCpl = 16
 headerOf PageReq = 16
 headerOf PrgResp = 16
 
--- 4 × Length bytes follow 40h, 60h, 4Ah and 72h only.
+-- the forms behind whose header 4 × Length bytes follow: writes, completions with data, Invalidate Requests
 abbrev pub carries : Form → Bool
 carries Mrd32 = false
 carries Mrd64 = false
@@ -60,11 +60,11 @@ carries InvCpl = false
 carries PageReq = false
 carries PrgResp = false
 
--- Length counts DWORDs, and 0 means 1024.
+-- how many DWORDs a Length stands for: 0 for 1024
 abbrev pub dwordsOf : ℕ → ℕ
 dwordsOf w = cond (eqb w 0) 1024 w
 
--- the length that byte 0 and Length give
+-- how many bytes a packet of this form and Length has
 abbrev pub lengthOf : Form → ℕ → ℕ
 lengthOf m w = cond (carries m) (headerOf m + dwordsOf w * 4) (headerOf m)
 

@@ -1,4 +1,4 @@
--- Bytes are numbered as sent, high byte first. A header taken apart into a frame, and a frame spelled as bytes.
+-- A header taken apart into a frame, and a frame spelled as bytes: byte 0 is the first on the wire, and numbers of several bytes have their high byte first.
 use Prim.Native.Nat.{ℕ, _+_, _*_, _/_, _%_}
 use mathlib.Core.Bool.{cond}
 use mathlib.Core.List.{List, [], _∷_, _++_}

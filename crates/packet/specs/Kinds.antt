@@ -64,11 +64,11 @@ invIn f =
       sized = eqb (f .body / 2048 % 2) 1;
     })
 
--- IC: bytes 8-9 Device ID, byte 11 bits 2:0 CC, bytes 12-15 the vector
+-- IC: the Device ID in bytes 8 and 9, CC in the low three bits of byte 11, and the vector in the last DWORD
 abbrev pub icIn : Frame → Body
 icIn f = Ic (record { device = f .dword8 / 65536; cc = f .dword8 % 8; vector = f .dword12 })
 
--- PRQ: from byte 8 on page address 63:12, PRG index in bits 11:3, L in 2, W in 1, R in 0
+-- PRQ: a, the number in bytes 8 to 15, has the page address with the PRG index, L, W and R in its low 12 bits, in this order
 abbrev pub prqIn : ℕ → Body
 prqIn a =
     Prq
@@ -139,7 +139,7 @@ shortEnough w = leb (dwordsOf w) 32
 abbrev pub evenAndShort : ℕ → Bool
 evenAndShort w = eqb (w % 2) 0 && shortEnough w
 
--- S set and bits 63:12 all ones is no size
+-- where S is set, an address of ones only has no size
 abbrev pub hasSize : ℕ → Bool → Bool
 hasSize a s = cond s (not (eqb (a / 4096) 0xF_FFFF_FFFF_FFFF)) true
 

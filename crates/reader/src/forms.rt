@@ -35,7 +35,7 @@ pub(crate) fn choice(byte0: u8, byte7: u8) -> Choice
     }
 }
 
-// The length that byte 0 and Length give.
+// How many bytes a packet of this form and Length has.
 pub(crate) fn length_of(m: Form, words: u16) -> usize
     ensures { λ r. ⌜ r ≡ lengthOf m words ⌝ }
 {

@@ -1,4 +1,4 @@
--- Receiving. 01, "The Function's tables" and "The seventeen numbers": reading, 2 (kind), 5, then 7, 8 or 10, 9.
+-- Receiving. 01, "The Function's tables" and "The seventeen numbers", Order: what reading refuses; 2 for a kind that is not taken; 5; then the numbers of the kind.
 use mathlib.Core.Bool.{Bool, true, false, cond}
 use mathlib.Core.List.{List, []}
 use Prim.Native.Nat.{ℕ}

@@ -199,7 +199,7 @@ fn size_fits(t: Tr, stu: u8, size: Size, payload: &[u8]) -> bool
     }
 }
 
-// One size, not below the unit, and every region begins in the range.
+// All of one size, the unit or larger, and every region begins in the range.
 fn do_fit(t: Tr, stu: u8, payload: &[u8]) -> bool
     ensures { λ r. ⌜ r ≡ fits t stu (now (payload .entry)) ⌝ }
 {

@@ -27,7 +27,7 @@ abbrev pub accessText : Access → List ℕ
 accessText (Read tag) = decimal (tag .0)
 accessText Write = 45 ∷ []
 
--- Tag, ITag or PRG index in decimal; the vector of an IC as 8 hex digits
+-- the label: a Tag, an ITag and a PRG index in decimal, the vector of an IC in hex
 abbrev pub labelText : Body → List ℕ
 labelText (Tr t) = decimal (t .tag .0)
 labelText (Mem m) = accessText (m .access)

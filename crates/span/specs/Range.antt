@@ -18,7 +18,7 @@ unitExponent stu = 12 + stu % 32
 abbrev pub unitBytes : ℕ → ℕ
 unitBytes stu = 2 ^ unitExponent stu
 
--- a region below the unit is rounded up to it
+-- the region, or the whole unit around it where the unit is larger
 unfoldable pub roundedOf : ℕ → ℕ → ℕ → Range
 roundedOf a e u = regionOf a (max e u)
 

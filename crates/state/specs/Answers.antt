@@ -54,7 +54,7 @@ pub record Result : Type 0 where
   pub sent : ℕ
   pub buffer : List ℕ
 
--- A refused call changes neither state nor buffer. One that sends writes its packet at the buffer's start and nothing after it.
+-- Refused, a call leaves state and buffer as they were. Else the state is the deed's, and the buffer begins with the bytes sent and goes on as it was.
 abbrev pub ended : Function → List ℕ → Said Deed → Result
 ended f out (gives d) = record { state = d .state; says = gives (d .word); sent = d .sent; buffer = d .bytes ++ drop (length (d .bytes)) out }
 ended f out (number n) = record { state = f; says = number n; sent = 0; buffer = out }

@@ -29,7 +29,7 @@ isRcb bytes = eqb bytes 64 || eqb bytes 128
 abbrev pub rcbOf : ℕ → Rcb
 rcbOf bytes = cond (eqb bytes 128) B128 B64
 
--- E clear, the hand 0, the page interface off, all else empty
+-- what a reset leaves: nothing cached, open or waiting, no agent, the hand at slot 0, E clear and no page interface
 abbrev pub fresh : ℕ → ℕ → Rcb → Function
 fresh id stu rcb =
     record {

@@ -12,7 +12,7 @@ use Rattle.state.specs.declared.Function.{Function}
 use Rattle.state.specs.State.{isRcb, rcbOf, fresh, remade, withEnable, withPages}
 use Rattle.state.specs.Answers.{Deed, done, plainly}
 
--- reset fixes the ID, STU 0 to 31 and RCB 64 or 128; other values are 12
+-- a reset sets ID, STU and RCB; an STU over 31 and an RCB that is none are 12
 unfoldable pub resetting : ℕ → ℕ → ℕ → Said Deed
 resetting id stu rcb =
     demand 12 (leb stu 31)
@@ -38,7 +38,7 @@ switchingOn f allocation Off = demand 12 (isGranted allocation) (plainly (withPa
 switchingOn f allocation On = number 12
 switchingOn f allocation Stopped = number 15
 
--- switching off closes all groups, and does nothing when off or stopped
+-- switching off: while on, no group stays open and the allocation is gone; otherwise nothing changes
 unfoldable pub switchingOff : Function → Interface → Said Deed
 switchingOff f Off = plainly f done
 switchingOff f On = plainly (withPages f switchedOff) done

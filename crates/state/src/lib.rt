@@ -93,7 +93,7 @@ fn fresh_function(id: u16, stu: u8, rcb: Rcb) -> Function
     }
 }
 
-// A new Function is as after a reset with ID 0, STU 0 and RCB 64.
+// What a reset to ID 0, STU 0, RCB 64 would leave.
 pub fn new() -> Function
     ensures { λ r. ⌜ r ≡ fresh 0 0 (rcbOf 64) ⌝ }
 {

@@ -32,7 +32,7 @@ use Rattle.tlp.specs.Refit.{chosen-by, Refit, refit}
 pub refused-writes-nothing : (p : Packet) (payload out : List ℕ) (k : ℕ) → writing p (length payload) (length out) ≡ number k → after (writing p (length payload) (length out)) (bytesOf p payload) out ≡ out
 refused-writes-nothing p payload out k e = rw e
 
--- ---- write then read gives the same fields
+-- ---- what is written reads as the packet that it was written from
 
 -- a list of 12 to 144 bytes is read by its frame
 read-by-frame : (b : List ℕ) → 12 ≤ length b → length b ≤ 144 → reading b ≡ readFrame (frameOf b) (length b)
@@ -127,7 +127,7 @@ module _ (b : List ℕ) (h : Bytes b) where
   unfolding normal
   normal-reads = normal-as (choose (byte b 0) (byte b 7)) refl
 
--- ---- read then write gives the same bytes with ignored bits zero
+-- ---- what is read writes as the bytes that it was read from, but for bits without a name, which are zero
 
 -- a packet that is read passed each test
 pub record Taken (b : List ℕ) (p : Packet) : Type 0 where

@@ -1,1 +1,1 @@
-// Laws that the proofs of every crate cite; there is no code here.
+// Laws that the proofs of many crates cite; there is no code here.

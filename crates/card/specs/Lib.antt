@@ -1,6 +1,6 @@
 pub mod Call
 pub mod Refused
-pub mod Settled
+pub mod Told
 pub mod Tables
 pub mod Kept
 pub mod Completed

@@ -11,6 +11,7 @@ use lib.Seq.{paste, take-all, take-length, take-append-add, length-take-le}
 use borrow.Author.Tests.{leb-true, leb-false, lt-ltb, le-ltb}
 use Rattle.rows.specs.Rows.{outLine, rowIn}
 use Rattle.rows.specs.Short.{outLine-short}
+use Rattle.lister.specs.declared.Progress.{Progress}
 use Rattle.lister.specs.Line.{lineRead, lineText}
 use Rattle.rows.specs.Places.{Laid}
 use Rattle.lister.specs.Stream.{printed, numberAfter, startAfter, lastText, cut}
@@ -59,36 +60,36 @@ start-is held hold m s e f = rw (f, e) (start-case (leb (min held 289) (length h
 
 -- ---- the last line
 
-pub finish-none : (k held : ℕ) (hold out : List ℕ) → startIn held hold ≡ [] → (0, out) ≡ finished k held hold out
+pub finish-none : (from : Progress) (hold out : List ℕ) → startIn (from .held) hold ≡ [] → (0, out) ≡ finished from hold out
 unfolding finished
-finish-none k held hold out e = rw e (sym (row-none out))
+finish-none from hold out e = rw e (sym (row-none out))
 
 last-line : (k : ℕ) (p : List ℕ) → 0 < length p → lastText k p ≡ lineText k p
 last-line k [] h = absurd (not-suc-le-zero h)
 last-line k (c ∷ p) h = refl
 
-pub finish-line : (k held : ℕ) (hold out p : List ℕ) → p ≡ startIn held hold → 0 < length p → rowIn (lineText k p) out ≡ finished k held hold out
+pub finish-line : (from : Progress) (hold out p : List ℕ) → p ≡ startIn (from .held) hold → 0 < length p → rowIn (lineText (from .number) p) out ≡ finished from hold out
 unfolding finished
-finish-line k held hold out p e h = rw (← e, last-line k p h)
+finish-line from hold out p e h = rw (← e, last-line (from .number) p h)
 
--- ---- a piece
+-- ---- a block
 
-pub fed-none : (k held : ℕ) (hold block out : List ℕ) (s : ℕ) → length hold < 289 → take s hold ≡ startIn held hold → s ≤ length hold
-    → (record { number = k; held = s; taken = 0; written = 0 }, hold, out) ≡ fed k held hold block out
+pub fed-none : (from : Progress) (hold block out : List ℕ) (s : ℕ) → length hold < 289 → take s hold ≡ startIn (from .held) hold → s ≤ length hold
+    → (record { progress = record { number = from .number; held = s }; taken = 0; ready = 0 }, hold, out) ≡ fed from hold block out
 unfolding fed printed numberAfter startAfter
-fed-none k held hold block out s short e h =
+fed-none from hold block out s short e h =
     let n : length (take s hold) ≡ s = length-take-le s hold h in
     rw (lt-ltb (length hold) 289 short, ← e, take-all 289 (take s hold) (omega arith), n, take-append-drop)
 
-pub fed-some : (k held : ℕ) (hold block out : List ℕ) (s t n h w : ℕ) (hold′ out′ : List ℕ) → 289 ≤ length hold → take s hold ≡ startIn held hold
-    → t ≡ takes k (length block) (length out) → n ≡ numberAfter k (take t block)
-    → Laid 0 (cut (startAfter (take s hold) (take t block))) hold h hold′ → Laid 0 (printed k (take s hold) (take t block)) out w out′
-    → (record { number = n; held = h; taken = t; written = w }, hold′, out′) ≡ fed k held hold block out
+pub fed-some : (from : Progress) (hold block out : List ℕ) (s t n h w : ℕ) (hold′ out′ : List ℕ) → 289 ≤ length hold → take s hold ≡ startIn (from .held) hold
+    → t ≡ takes (from .number) (length block) (length out) → n ≡ numberAfter (from .number) (take t block)
+    → Laid 0 (cut (startAfter (take s hold) (take t block))) hold h hold′ → Laid 0 (printed (from .number) (take s hold) (take t block)) out w out′
+    → (record { progress = record { number = n; held = h }; taken = t; ready = w }, hold′, out′) ≡ fed from hold block out
 unfolding fed
-fed-some k held hold block out s t n h w hold′ out′ room e f m a b =
+fed-some from hold block out s t n h w hold′ out′ room e f m a b =
     let x = at-start (cut (startAfter (take s hold) (take t block))) hold h hold′ a in
-    let y = at-start (printed k (take s hold) (take t block)) out w out′ b in
-    rw (le-ltb (length hold) 289 room, ← f, ← e) (λ i. (record { number = m i; held = x i .0; taken = t; written = y i .0 }, x i .1, y i .1))
+    let y = at-start (printed (from .number) (take s hold) (take t block)) out w out′ b in
+    rw (le-ltb (length hold) 289 room, ← f, ← e) (λ i. (record { progress = record { number = m i; held = x i .0 }; taken = t; ready = y i .0 }, x i .1, y i .1))
 
 -- as many characters as there are, or as there is room for
 pub take-least : (m n : ℕ) (cs : List ℕ) → n ≡ min m (length cs) → take n cs ≡ take m cs

@@ -8,6 +8,7 @@ use lib.Dec.{ltb}
 use lib.ListN.{length, take, drop, length-take}
 use lib.Seq.{take-at}
 use Rattle.rows.specs.Laying.{start-within, row-within}
+use Rattle.lister.specs.declared.Progress.{Progress}
 use Rattle.lister.specs.declared.Fed.{Fed}
 use Rattle.lister.specs.Stream.{printed, lastText, cut}
 use Rattle.lister.specs.Pieces.{startIn, takes, fed, finished}
@@ -16,18 +17,20 @@ takes-some : (t : Bool) (k n room : ℕ) → cond t 0 (takes k n room) ≤ n
 takes-some true k n room = zero-le
 takes-some false k n room = le-trans (min-le-left (min n _) _) (min-le-left n _)
 
-module _ (k held : ℕ) (hold block out : List ℕ) (r : Fed) (h o : List ℕ) (e : (r, h, o) ≡ fed k held hold block out) where
+module _ (from : Progress) (hold block out : List ℕ) (r : Fed) (h o : List ℕ) (e : (r, h, o) ≡ fed from hold block out) where
   pub feed-takes : r .taken ≤ length block
   unfolding fed
-  feed-takes = rw (ap (λ (x : Fed × List ℕ × List ℕ). x .0 .taken) e) (takes-some (ltb (length hold) 289) k (length block) (length out))
+  feed-takes = rw (ap (λ (x : Fed × List ℕ × List ℕ). x .0 .taken) e) (takes-some (ltb (length hold) 289) (from .number) (length block) (length out))
 
-  pub feed-writes : length o ≡ length out → r .written ≤ length out
+  pub feed-readies : length o ≡ length out → r .ready ≤ length out
   unfolding fed
-  feed-writes l = start-within (printed k (startIn held hold) (take (cond (ltb (length hold) 289) 0 (takes k (length block) (length out))) block)) out (r .written) o (ap (λ (x : Fed × List ℕ × List ℕ). (x .0 .written, x .2)) e) l
+  feed-readies l =
+      start-within (printed (from .number) (startIn (from .held) hold) (take (cond (ltb (length hold) 289) 0 (takes (from .number) (length block) (length out))) block)) out (r .ready) o
+      (ap (λ (x : Fed × List ℕ × List ℕ). (x .0 .ready, x .2)) e) l
 
-pub finish-writes : (k held : ℕ) (hold out : List ℕ) (n : ℕ) (o : List ℕ) → (n, o) ≡ finished k held hold out → length o ≡ length out → n ≤ length out
+pub finish-readies : (from : Progress) (hold out : List ℕ) (n : ℕ) (o : List ℕ) → (n, o) ≡ finished from hold out → length o ≡ length out → n ≤ length out
 unfolding finished
-finish-writes k held hold out n o e l = row-within (lastText k (startIn held hold)) out n o e l
+finish-readies from hold out n o e l = row-within (lastText (from .number) (startIn (from .held) hold)) out n o e l
 
 -- what is held after a piece is the start of the line that the piece left
 pub start-kept : (s hold : List ℕ) → startIn (length (cut s)) (cut s ++ drop (length (cut s)) hold) ≡ cut s

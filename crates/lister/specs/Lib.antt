@@ -4,4 +4,5 @@ pub mod Stream
 pub mod Cuts
 pub mod Pieces
 pub mod Calls
-pub mod Settled
+pub mod Blocks
+pub mod Told

@@ -10,7 +10,7 @@ ghost use Rattle.rows.specs.Rows.{outLine, rowIn};
 ghost use Rattle.packet.specs.Reading.{paperRead};
 ghost use Rattle.lister.specs.Line.{paperLine, lineRead, lineText};
 ghost use Rattle.lister.specs.Runs.{HexRun};
-ghost use Rattle.lister.specs.Pieces.{fed, finished};
+ghost use Rattle.lister.specs.Pieces.{begun, fed, finished};
 
 // What a line says: a packet; a refusal, which for a line too long is the packet's own; or
 // characters that are no bytes in hex.
@@ -73,47 +73,64 @@ pub fn list_line(number: u64, line: &[u8], out: &mut [u8]) -> usize
     put_row(number, read_line(line), out)
 }
 
-// What a piece of the input left: the number of the line that it leaves unfinished, how many of that
-// line's characters the hold has, how many of the piece's it took, and how many it wrote.
-pub struct Fed {
+// Where the listing of an input stands: the number of the line that is not finished, and how many of
+// that line's characters the hold has.
+pub struct Progress {
     pub number: u64,
     pub held: usize,
-    pub taken: usize,
-    pub written: usize,
 }
 
-// Takes the next piece of the input, as much of it as `out` has room for at 64 bytes a character. The
+// Before the first block.
+pub fn start() -> Progress
+    ensures { λ r. ⌜ r ≡ begun ⌝ }
+{
+    Progress { number: 1, held: 0 }
+}
+
+// What a block left: where the listing then stands, how many of the block's characters were taken, and
+// how many bytes of output are ready, at the start of `out`, to be written before the next call.
+pub struct Fed {
+    pub progress: Progress,
+    pub taken: usize,
+    pub ready: usize,
+}
+
+// Takes the next block of the input, as much of it as `out` has room for at 64 bytes a character. The
 // first `held` characters of `hold` are the start of line `number`; of a line that is too long they are
 // the first 289, which show that it is. A `hold` that has no room for these takes nothing.
-pub fn feed(number: u64, held: usize, hold: &mut [u8], block: &[u8], out: &mut [u8]) -> Fed
-    ensures { λ r. ⌜ (r, now (hold .exit), now (out .exit)) ≡ fed number held (now (hold .entry)) (now (block .entry)) (now (out .entry)) ⌝ }
+pub fn feed(from: Progress, hold: &mut [u8], block: &[u8], out: &mut [u8]) -> Fed
+    ensures { λ r. ⌜ (r, now (hold .exit), now (out .exit)) ≡ fed from (now (hold .entry)) (now (block .entry)) (now (out .entry)) ⌝ }
 {
-    let start = lines::least(lines::least(held, 289), hold.len());
+    let held = lines::least(lines::least(from.held, 289), hold.len());
     if hold.len() < 289 {
         return Fed {
-            number,
-            held: start,
+            progress: Progress {
+                number: from.number,
+                held,
+            },
             taken: 0,
-            written: 0,
+            ready: 0,
         };
     }
-    let taken = lines::takes(number, block.len(), out.len());
-    let k = lines::take_in(number, start, hold, &block[..taken], out);
+    let taken = lines::takes(from.number, block.len(), out.len());
+    let k = lines::take_in(from.number, held, hold, &block[..taken], out);
     Fed {
-        number: k.number,
-        held: k.held,
+        progress: Progress {
+            number: k.number,
+            held: k.held,
+        },
         taken,
-        written: k.written,
+        ready: k.written,
     }
 }
 
 // The output line of the last line, if the input does not end in a line feed, as `list_line` has it.
-pub fn finish(number: u64, held: usize, hold: &[u8], out: &mut [u8]) -> usize
-    ensures { λ r. ⌜ (r, now (out .exit)) ≡ finished number held (now (hold .entry)) (now (out .entry)) ⌝ }
+pub fn finish(from: Progress, hold: &[u8], out: &mut [u8]) -> usize
+    ensures { λ r. ⌜ (r, now (out .exit)) ≡ finished from (now (hold .entry)) (now (out .entry)) ⌝ }
 {
-    let start = lines::least(lines::least(held, 289), hold.len());
-    if start == 0 {
+    let held = lines::least(lines::least(from.held, 289), hold.len());
+    if held == 0 {
         return 0;
     }
-    list_line(number, &hold[..start], out)
+    list_line(from.number, &hold[..held], out)
 }

@@ -6,6 +6,5 @@ pub mod Refit
 pub mod Trips
 pub mod Forbidden
 pub mod Laws
-pub mod Settled
 pub mod Translations
 pub mod Words

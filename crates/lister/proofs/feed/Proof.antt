@@ -17,8 +17,8 @@ returns c =
     let start = c .before .before .before .before .before .before in
     let m = c .before .before .least in
     let s = c .before .least2 in
-    let same = start-is (start .args .held) (start .args .hold .now) (m .result) (s .result) (m .ensures .0) (s .ensures .0) in
-    fed-none (start .args .number) (start .args .held) (start .args .hold .now) (start .args .block .now) (start .args .out .now) (s .result) (c .if1 .taken) same (s .ensures .2)
+    let same = start-is (start .args .from .held) (start .args .hold .now) (m .result) (s .result) (m .ensures .0) (s .ensures .0) in
+    fed-none (start .args .from) (start .args .hold .now) (start .args .block .now) (start .args .out .now) (s .result) (c .if1 .taken) same (s .ensures .2)
 
 takes-requires : tie.Need-takes-requires
 takes-requires c κs = search needs
@@ -46,8 +46,8 @@ returns-2 c =
     let s = c .before .before .before .before .before .before .before .before .before .before .least2 in
     let t = c .before .before .before .before .before .before .before .before .takes in
     let k = c .before .before .before .before .take-in in
-    let same = start-is (start .args .held) (start .args .hold .now) (m .result) (s .result) (m .ensures .0) (s .ensures .0) in
-    fed-some (start .args .number) (start .args .held) (start .args .hold .now) (start .args .block .now) (start .args .out .now) (s .result) (t .result)
+    let same = start-is (start .args .from .held) (start .args .hold .now) (m .result) (s .result) (m .ensures .0) (s .ensures .0) in
+    fed-some (start .args .from) (start .args .hold .now) (start .args .block .now) (start .args .out .now) (s .result) (t .result)
     (k .result .number) (k .result .held) (k .result .written) (k .last .1 .1 .0) (k .last .1 .1 .1 .1 .0) (c .before .before .before .before .before .before .before .before .before .if1 .left) same (t .ensures .0) (k .ensures .0) (k .ensures .1 .0) (k .ensures .1 .1)
 
 pub feed-spec : {M : Type 1} → statement M

@@ -17,8 +17,8 @@ least-requires-2 c κs = search needs
 returns : tie.Need-returns
 returns c =
     let start = c .before .before .before .before .before in
-    let none = start-is (start .args .held) (start .args .hold .now) (c .before .before .least .result) (c .before .least2 .result) (c .before .before .least .ensures .0) (c .before .least2 .ensures .0) in
-    finish-none (start .args .number) (start .args .held) (start .args .hold .now) (start .args .out .now) (sym none ∙ ap (λ (n : ℕ). take n (start .args .hold .now)) (c .if1 .taken))
+    let none = start-is (start .args .from .held) (start .args .hold .now) (c .before .before .least .result) (c .before .least2 .result) (c .before .before .least .ensures .0) (c .before .least2 .ensures .0) in
+    finish-none (start .args .from) (start .args .hold .now) (start .args .out .now) (sym none ∙ ap (λ (n : ℕ). take n (start .args .hold .now)) (c .if1 .taken))
 
 slice-aggregate-list-line : tie.Need-slice-aggregate-list-line
 slice-aggregate-list-line c = let l = c .before .before .least2 in sym (length-take-le (l .result) _ (l .ensures .2))
@@ -34,10 +34,10 @@ returns-2 c =
     let start = c .before .before .before .before .before .before .before .before .before .before in
     let m = c .before .before .before .before .before .before .before .least in
     let s = c .before .before .before .before .before .before .least2 in
-    let same = start-is (start .args .held) (start .args .hold .now) (m .result) (s .result) (m .ensures .0) (s .ensures .0) in
+    let same = start-is (start .args .from .held) (start .args .hold .now) (m .result) (s .result) (m .ensures .0) (s .ensures .0) in
     let long = length-take-le (s .result) (start .args .hold .now) (s .ensures .2) in
     c .before .before .list-line .ensures
-    ∙ finish-line (start .args .number) (start .args .held) (start .args .hold .now) (start .args .out .now) (take (s .result) (start .args .hold .now)) same (omega (arith, c .before .before .before .before .before .if1 .left))
+    ∙ finish-line (start .args .from) (start .args .hold .now) (start .args .out .now) (take (s .result) (start .args .hold .now)) same (omega (arith, c .before .before .before .before .before .if1 .left))
 
 pub finish-spec : {M : Type 1} → statement M
 finish-spec =

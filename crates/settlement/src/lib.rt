@@ -1,0 +1,1 @@
+// Settlement of every public operation: theorems only, in specs/.

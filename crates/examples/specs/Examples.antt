@@ -5,6 +5,8 @@ use mathlib.Core.List.{List, [], _∷_, _++_}
 use Prim.Native.Nat.{ℕ, _^_}
 use Rattle.packet.specs.declared.Packet.{Packet}
 use Rattle.packet.specs.declared.Body.the-variants.{Tr, Inv, Ic, Prq}
+use Rattle.packet.specs.declared.InvalidateRequest.{InvalidateRequest}
+use Rattle.packet.specs.declared.PageRequest.{PageRequest}
 use Rattle.packet.specs.Numbers.{gives, number, Said}
 use Rattle.packet.specs.Frames.{frameOf, four}
 use Rattle.packet.specs.Forms.{choose}
@@ -21,6 +23,7 @@ use Rattle.span.specs.Range.{regionOf, roundedOf, reachOf, runOf, movedTo}
 use Rattle.span.specs.Size.{lowestZero, sizeOf, bytesCoded, translationOf}
 use lib.ListN.{replicate}
 use Rattle.lemmas.specs.First.{firstAt}
+use Rattle.lemmas.specs.Gather.{gather}
 use Rattle.lemmas.specs.Run.{runTo}
 use Rattle.lemmas.specs.All.{allTo}
 use Rattle.tlp.specs.Translations.{translationAt}
@@ -33,17 +36,20 @@ use Rattle.replies.specs.Fits.{onBoundary, firstPart, partOf, sizeOfAll, begins
 use Rattle.replies.specs.Fills.{unitFilled, covered, unitStep, applied}
 use Rattle.state.specs.declared.Function.{Function}
 use Rattle.state.specs.State.{fresh}
-use Rattle.state.specs.Answers.{Word, tag, sending}
-use Rattle.state.specs.Switches.{resetting, enabling}
+use Rattle.state.specs.Answers.{Word, done, tag, sending}
+use Rattle.state.specs.Switches.{resetting, enabling, switchingOn}
+use Rattle.accesses.specs.declared.Target.{Target}
 use Rattle.accesses.specs.declared.Way.the-variants.{Read as ToRead}
 use Rattle.asks.specs.Ask.{isBelowTop, isAskable, asking}
 use Rattle.accesses.specs.Access.{lookingUp, accessing}
 use Rattle.completions.specs.Translations.{settled, translated}
+use Rattle.pages.specs.Pages.{isWaiting, used, isSpent, joined as credited}
+use Rattle.requests.specs.PageRequests.{requestingOn}
 use Rattle.snoops.specs.Invalidate.{snoopRange, invalidated}
 use Rattle.completions.specs.Completions.{completed}
 use Rattle.receives.specs.Receive.{taken, received}
 use Rattle.card.specs.declared.Command.{Command}
-use Rattle.card.specs.declared.Command.the-variants.{Reset, Enable, Ask, Access, Receive}
+use Rattle.card.specs.declared.Command.the-variants.{Reset, Enable, Ask, Access, Receive, PagesOn, PageRequest as Requests}
 use Rattle.card.specs.Call.{calling, step}
 
 -- an example says that two things are equal
@@ -69,15 +75,21 @@ plain base size = record { base = base; size = size; n = false; u = false; w = f
 abbrev invalidate : ℕ → ℕ → List ℕ
 invalidate high low = four 0x7200_0002 ++ four 0x0200_0301 ++ four 0x0100_0000 ++ four 0 ++ four high ++ four low
 
+abbrev requested : ℕ → InvalidateRequest
+requested address = record { itag = record { 0 = 3 }; device = 0x0100; address = address; sized = true }
+
 abbrev invalidation : ℕ → Packet
-invalidation address = record { head = record { tc = 0; sender = 0x0200 }; body = Inv (record { itag = record { 0 = 3 }; device = 0x0100; address = address; sized = true }) }
+invalidation address = record { head = record { tc = 0; sender = 0x0200 }; body = Inv (requested address) }
+
+-- page 203000h, index 3, R and L
+abbrev page : PageRequest
+page = record { page = 0x203000; index = record { 0 = 3 }; last = true; write = false; read = true }
 
 abbrev pageRequest : Packet
-pageRequest =
-    record {
-      head = record { tc = 0; sender = 0x0100 };
-      body = Prq (record { page = 0x203000; index = record { 0 = 3 }; last = true; write = false; read = true });
-    }
+pageRequest = record { head = record { tc = 0; sender = 0x0100 }; body = Prq page }
+
+abbrev pageBytes : List ℕ
+pageBytes = four 0x3000_0000 ++ four 0x0100_0004 ++ four 0 ++ four 0x0020_301D
 
 -- 00000402010005FF00203000
 abbrev line1 : List ℕ
@@ -118,6 +130,18 @@ ask address units = Ask (record { address = address; units = units; nowrite = fa
 abbrev reply : ℕ → ℕ → List ℕ
 reply high low = four 0x4A00_0002 ++ four 0x0008_0008 ++ four 0x0100_0038 ++ four high ++ four low
 
+-- and what it sends: the answer, the length, the buffer after the call
+abbrev sends : Function → Command → List ℕ → Said Word × ℕ × List ℕ
+sends f c bytes = let r = step f c bytes buffer in (r .says, r .sent, r .buffer)
+
+-- the address that a read of one DWORD goes to, or why it is refused
+abbrev reads : Function → ℕ → Said Target
+reads f address = lookingUp f ToRead address 1 0
+
+-- example 1: 3 units from 0 at STU 0, answered by 16384 bytes at 4000 0000h with R and W, then an Invalidate Request
+abbrev invalidated-by : ℕ → Function
+invalidated-by low = after (started 0) ((ask 0 3, []) ∷ (Receive, reply 0 0x4000_1803) ∷ (Receive, invalidate 0 low) ∷ [])
+
 -- example 4: 203000h asked for at STU 0, and answered by 2 MiB at 4000 0000h with R and W
 abbrev filled : Function
 filled = after (started 0) ((ask 0x203000 1, []) ∷ (Receive, reply 0 0x400F_F803) ∷ [])
@@ -135,6 +159,12 @@ examples =
     ∷ reading (invalidate 0 0x1800) is gives (invalidation 0x1000)
     ∷ bytesCoded 0x1000 true is 16384
     ∷ translationOf 0x1800 is plain 0 (Exponent 14)
+    -- as a range at 0, and as what a read meets after the call
+    ∷ snoopRange 0 (requested 0) is record { first = 0; last = 0x1FFF }
+    ∷ snoopRange 0 (requested 0x1000) is record { first = 0; last = 0x3FFF }
+    ∷ reads (invalidated-by 0x0800) 0x1FFC is number 13
+    ∷ reads (invalidated-by 0x0800) 0x2000 is gives (record { address = 0x4000_2000; translated = true })
+    ∷ reads (invalidated-by 0x1800) 0x2000 is number 13
     -- 2: 2 ^ 64 bytes; no size, which is 4 in a request
     ∷ reading (invalidate 0x7FFF_FFFF 0xFFFF_F800) is gives (invalidation 0x7FFF_FFFF_FFFF_F000)
     ∷ bytesCoded 0x7FFF_FFFF_FFFF_F000 true is (2 ^ 64)
@@ -144,7 +174,7 @@ examples =
     -- 3: 4096 bytes at 3000h, rounded up to a unit of 8192
     ∷ snoopRange 1 (record { itag = record { 0 = 0 }; device = 0x0100; address = 0x3000; sized = false }) is record { first = 0x2000; last = 0x3FFF }
     -- 4: one unit of a large page is cached, and no other
-    ∷ lookingUp filled ToRead 0x203000 1 0 is gives (record { address = 0x4000_3000; translated = true })
+    ∷ reads filled 0x203000 is gives (record { address = 0x4000_3000; translated = true })
     ∷ says filled (Access (record { way = ToRead; address = 0x204000; words = 1 })) [] is number 13
     -- 5: the second of two units makes the request stale
     ∷ heldAt (snooped .places) (record { 0 = 0 }) is Held (record { address = 0x0FFF_FFFF_C000; further = 1; stale = true; size = 0; whole = 0; due = 0 })
@@ -153,14 +183,15 @@ examples =
     ∷ reading (four 0x3200_0000 ++ four 0x0100_0002 ++ four 0x0008_0001 ++ four 0x8000_0001) is gives (record { head = record { tc = 0; sender = 0x0100 }; body = Ic (record { device = 0x0008; cc = 1; vector = 0x8000_0001 }) })
     ∷ lineText 1 line1 is shown1
     ∷ lineText 2 line2 is shown2
-    -- 7: a page request, byte for byte
-    ∷ bytesOf pageRequest [] is (four 0x3000_0000 ++ four 0x0100_0004 ++ four 0 ++ four 0x0020_301D)
+    -- 7: a page request, byte for byte, as the writer and as the Function sends it
+    ∷ bytesOf pageRequest [] is pageBytes
     ∷ writing pageRequest 0 16 is gives 16
-    -- 8: the last unit below 2 ^ 64 can be asked for, two from there on cannot
-    ∷ says (started 0) (ask 0xFFFF_FFFF_FFFF_F000 1) [] is gives (tag 0)
-    ∷ says (started 0) (ask 0xFFFF_FFFF_FFFF_F000 2) [] is number 12
+    ∷ sends (after (started 0) ((PagesOn 1, []) ∷ [])) (Requests page) [] is (gives done, 16, pageBytes)
+    -- 8: the last unit below 2 ^ 64 is asked for, and two from there on are not
+    ∷ sends (started 0) (ask 0xFFFF_FFFF_FFFF_F000 1) [] is (gives (tag 0), 16, four 0x2000_0402 ++ four 0x0100_00FF ++ four 0xFFFF_FFFF ++ four 0xFFFF_F000)
+    ∷ sends (started 0) (ask 0xFFFF_FFFF_FFFF_F000 2) [] is (number 12, 0, buffer)
     ∷ []
 
 pub examples-hold : Hold examples
-unfolding lowestZero sizeOf bytesCoded translationOf regionOf frameOf choose bodyIn shaped allowedBody withinBody loadOf formOf framed readForm reading bytesOf writing allHex unhex decimal decimalIn lineRead lineText outLine firstAt runTo allTo roundedOf reachOf runOf movedTo payloadIn wordAt translationAt found put unitDropped spanDropped isIn joined freeTag heldAt placed rangeOf bytesAsked touches marks allStaled onBoundary firstPart partOf sizeOfAll beginsIn cameOf fitsAt allFit sizeFits judged unitFilled covered unitStep applied sending resetting enabling isBelowTop isAskable asking lookingUp accessing settled translated snoopRange invalidated completed taken received calling
-examples-hold = (refl, (refl, (refl, (refl, (refl, (refl, (refl, (refl, (refl, (refl, (refl, (refl, (refl, (refl, (refl, (refl, (refl, (refl, (refl, (refl, (refl, (refl, (refl, tt)))))))))))))))))))))))
+unfolding lowestZero sizeOf bytesCoded translationOf regionOf frameOf choose bodyIn shaped allowedBody withinBody loadOf formOf framed readForm reading bytesOf writing allHex unhex decimal decimalIn lineRead lineText outLine firstAt gather runTo allTo roundedOf reachOf runOf movedTo payloadIn wordAt translationAt found put unitDropped spanDropped isIn joined freeTag heldAt placed rangeOf bytesAsked touches marks allStaled onBoundary firstPart partOf sizeOfAll beginsIn cameOf fitsAt allFit sizeFits judged unitFilled covered unitStep applied sending resetting enabling isBelowTop isAskable asking lookingUp accessing settled translated snoopRange invalidated completed taken received switchingOn isWaiting used isSpent credited requestingOn calling
+examples-hold = (refl, (refl, (refl, (refl, (refl, (refl, (refl, (refl, (refl, (refl, (refl, (refl, (refl, (refl, (refl, (refl, (refl, (refl, (refl, (refl, (refl, (refl, (refl, (refl, (refl, (refl, (refl, (refl, (refl, tt)))))))))))))))))))))))))))))

@@ -11,7 +11,7 @@ use Rattle.rows.specs.Rows.{outLine}
 use Rattle.lister.specs.declared.Line.{Line}
 use Rattle.lister.specs.declared.Line.the-variants.{Read, Refused, Unreadable}
 
--- Over 288 characters is number 1, looked at first; then an odd count or a character that is no hex digit is number 0; then the packet is read.
+-- The length is tested before the characters: more than 288 of them give 1. What is no hex, by its count or by one of its characters, gives 0. Bytes are then read as a packet.
 unfoldable pub lineRead : List ℕ → Said Packet
 lineRead cs =
     refuse 1 (ltb 288 (length cs))

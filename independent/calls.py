@@ -107,7 +107,7 @@ def run(function, name, f, rest):
 # --- the state ------------------------------------------------------------
 
 def _vector(itags):
-    """A vector of ITags, 4 bytes, ITag 0 in the lowest bit."""
+    """A vector of ITags, 4 bytes; bit i stands for ITag i."""
     return sum(1 << itag for itag in itags).to_bytes(4, "big")
 
 

@@ -10,13 +10,17 @@ act is drawn.
 import masks
 import packets
 import scripts_calls
+import scripts_order
+import scripts_tables
 from calls import CALLS, Script, parse, record, run
 from cases_reading import forbidden, mutated
 from cases_sizes import coded
 from function import END, OFF, PAGE, STOPPED, TAGS, OpenRead, OpenTr
 from samples import FORMS, flip, noisy, poke, resized, with_length
 
-CALLS_WANTED = 7000
+FIXED = (scripts_calls.SCRIPTS + scripts_tables.SCRIPTS
+         + scripts_order.SCRIPTS)
+DRAWN = 4200                    # calls drawn at random, at least
 SHOW_EVERY = 40
 STUS = (0, 0, 0, 0, 1, 1, 2, 3, 9, 19, 20, 30, 31)
 BAD_STUS = (32, 32, 33, 63, 64, 255)
@@ -106,7 +110,7 @@ class Player:
 
     def fixed(self):
         """The fixed scripts, each step checked."""
-        for title, steps in scripts_calls.SCRIPTS:
+        for title, steps in FIXED:
             for step in steps:
                 self.give(step[0], scripts_calls.check(self.script, title,
                                                        step))
@@ -694,9 +698,26 @@ def cases(rng):
     player.fixed()
     names = tuple(MOODS)
     turn = 0
-    while player.calls < CALLS_WANTED:
+    fixed = player.calls
+    while player.calls < fixed + DRAWN:
         play(player, names[turn % len(names)])
         turn += 1
     player.give(record("show"))
+    return lines_of(player)
+
+
+def long_run():
+    """The one run that is a file of its own: (line, answer line)."""
+    player = Player(None)
+    title, steps = scripts_tables.LONGEST_RUN
+    for step in steps:
+        player.out.append((step[0], scripts_calls.check(player.script, title,
+                                                        step)))
+    player.out.append((record("show"), player.script.run(record("show"))))
+    return lines_of(player)
+
+
+def lines_of(player):
+    """The script: (line, answer line)."""
     return [(data.hex().upper().encode("ascii"), text)
             for data, text in player.out]

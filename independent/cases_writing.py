@@ -11,6 +11,8 @@ import packets
 import records
 from samples import FORMS, WITH_PAYLOAD, fields, lengths, payload
 
+MOST_RECORD = 4200              # bytes
+MOST_ROOM = 512
 ALL_PAGE_BITS = (1 << 64) - (1 << 12)
 TOP = (1 << 64) - 1
 # Values just outside each field's bits that its width in a record can hold.
@@ -186,6 +188,20 @@ def edges(rng):
                4 if status == 2 else "ok")
 
 
+def longest(rng):
+    """Lengths as large as they can be said, with all their payload."""
+    for form in WITH_PAYLOAD:
+        record, _, _ = good(rng, form)
+        for length, count, rooms, want in (
+                (0, 4096, (0, 144, 512), 4), (0, 4092, (0, 144, 512), 12),
+                (0, 4100, (0, 144, 512), 12), (0, 0, (0, 144, 512), 12),
+                (1023, 4092, (512,), 4), (33, 132, (0, 144, 512), 4),
+                (33, 128, (0, 144, 512), 12)):
+            for room in rooms:
+                yield (replace(record, length=length), rng.data(count), room,
+                       want)
+
+
 def chance(rng):
     """Fields drawn at random, often from outside."""
     for _ in range(300):
@@ -207,10 +223,10 @@ def chance(rng):
 
 def cases(rng):
     """All of them: (kind, line, number wanted)."""
-    for part in (valid, refusals, edges, chance):
+    for part in (valid, refusals, edges, chance, longest):
         for record, data, room, want in part(rng):
             packed = records.pack(record, room, data)
-            if len(packed) > 288:
+            if len(packed) > MOST_RECORD or room > MOST_ROOM:
                 raise AssertionError("record too long")
             yield (records.NAMES[records.code_of(record)],
                    packed.hex().upper().encode("ascii"), want)

@@ -3,8 +3,9 @@
     python3 drivers.py packets|calls < stdin > stdout
 
 packets: by the line's first letter, R: a packet in hex -> its field record and
-the packet written again; W: a field record -> the packet; S: an 8-byte word ->
-base, log2 of the size, N U W R. A refusal is BAD and its number. calls: a call
+the packet written again; W: a field record -> the packet and what the lent
+buffer holds after it; S: an 8-byte word -> base, log2 of the size, N U W R. A
+refusal is BAD and its number, and for W the whole lent buffer. calls: a call
 of the Function -> what it answers, sends and becomes (calls.py tells the
 form); the lines are given one after another to the same Function, new at the
 first.
@@ -37,11 +38,19 @@ def reading(line):
     return hex_of(record) + "\t" + hex_of(again)
 
 
+def lent(room):
+    """A buffer to write into; neighbours in it are never alike."""
+    return bytearray(255 - i % 251 for i in range(room))
+
+
 def writing(line):
     """One line of the writing test."""
     fields, room, payload = records.unpack(bytes.fromhex(line.decode("ascii")))
-    got = packets.write(fields, payload, room)
-    return "BAD\t%d" % got if isinstance(got, int) else hex_of(got)
+    buffer = lent(room)
+    got = packets.write_into(fields, payload, buffer)
+    if isinstance(got, int):
+        return "BAD\t%d\t%s" % (got, hex_of(buffer))
+    return hex_of(buffer[:len(got)]) + "\t" + hex_of(buffer[len(got):])
 
 
 def sizes(line):

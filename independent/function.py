@@ -49,7 +49,7 @@ class Entry:
 
 @dataclass(frozen=True)
 class OpenTr:
-    """An open Translation Request; the last three after a first of two."""
+    """An open Translation Request; log2, came, due tell of a first packet."""
     address: int        # as asked
     units: int
     stale: bool = False
@@ -81,13 +81,13 @@ def overlap(low, high, other_low, other_high):
 
 
 class Function:
-    """One Function. A new one is what a reset to ID 0, STU 0, RCB 64 leaves."""
+    """One Function; a fresh one has ID 0, the smallest unit, RCB 64."""
 
     def __init__(self):
         self._start(0, 0, 64)
 
     def _start(self, ident, stu, rcb):
-        """As after a reset."""
+        """What a reset makes of it."""
         self.id = ident
         self.stu = stu
         self.rcb = rcb
@@ -100,7 +100,7 @@ class Function:
         self._close_pages(OFF)
 
     def _close_pages(self, state):
-        """The page interface off or stopped, all groups closed."""
+        """Close all groups; the state is OFF or STOPPED from now on."""
         self.pages = state
         self.allocation = 0
         self.credits = 0
@@ -375,7 +375,7 @@ class Function:
         return all_log2[0]
 
     def _regions_fit(self, request, log2, count):
-        """Does each of the next count regions begin in the TR's range?"""
+        """Do the next count regions all begin inside what was asked for?"""
         for k in range(request.came, request.came + count):
             start = self._region_0(request, log2) + k * 2 ** log2
             if start >= self.range_end(request):
@@ -388,7 +388,7 @@ class Function:
         return request.address - request.address % 2 ** log2
 
     def _apply(self, request, log2, words):
-        """Fill or delete each unit of the range that these words cover."""
+        """Give the ATC what these words say of the units they cover."""
         region_0 = self._region_0(request, log2)
         for unit in self.units_of(request):
             k, offset = divmod(unit - region_0, 2 ** log2)
@@ -447,7 +447,7 @@ class Function:
         return DONE
 
     def ready(self):
-        """The ITags that wait and that no open read holds back, ascending."""
+        """The ITags that no open read holds back any more, ascending."""
         held = frozenset()
         for request in self.tags:
             if isinstance(request, OpenRead):

@@ -1,7 +1,8 @@
 """Write the test files: python3 generate.py DIR
 
-Makes listing, packets (reading, writing and sizes, one after the other) and
-calls, each a .stdin and a .stdout, the same bytes each time. Every case made
+Makes listing, packets (reading, writing and sizes, one after the other),
+calls, and hand, which is one long run of calls for a new Function; each a
+.stdin and a .stdout, the same bytes each time. Every case made
 to show a certain number is checked to show it; size-codes.tsv is checked row
 by row; the fixed scripts of calls are checked step by step. Prints how often
 each number and kind came up and, for the calls, each number and answer; exits
@@ -23,15 +24,20 @@ import cases_writing
 import drivers
 import listing
 import reached
+import reached_order
+import reached_roles
 import records
 from rng import Rng
 
+SEED = 5                        # of the script of calls
 # No forbidden value can be put into an Invalidate Completion.
 CANNOT = (("IC", "4"),)
 NUMBERS = {"listing": ("ok", "0", "1", "2", "3", "4"),
            "reading": ("ok", "0", "1", "2", "3", "4"),
            "writing": ("ok", "12", "4", "17")}
-LARGEST = {"listing": 400, "packets": 500, "calls": 900}     # thousand bytes
+# In and out, in thousand bytes.
+LARGEST = {"listing": (400, 400), "packets": (700, 1200),
+           "calls": (600, 900), "hand": (300, 300)}
 
 
 def check(want, got, line):
@@ -80,7 +86,7 @@ def make_sizes(rng):
 
 
 def make_packets(counts):
-    """(stdin, stdout) of the packet layer: each line begins with its letter."""
+    """(stdin, stdout) of the packet layer; a letter begins each line."""
     parts = {
         b"R": make("reading", cases_reading.cases(Rng(2)),
                    lambda _, line: drivers.reading(line), counts),
@@ -96,18 +102,18 @@ def make_packets(counts):
     return b"".join(line + b"\n" for line in asked), answered
 
 
-def make_calls(rng, tally):
-    """(stdin, stdout) of the calls, played once more from the lines alone."""
+def make_calls(cases, tally=None):
+    """(stdin, stdout) of calls, played once more from the lines alone."""
     asked, answered = [], []
     script = calls.Script()
-    for line, want in cases_calls.cases(rng):
-        before = script.function.copy()
+    for line, want in cases:
+        before = script.function.copy() if tally else None
         text = script.answer(line)
         check(want, text, line)
         asked.append(line + b"\n")
         answered.append(text.encode("ascii") + b"\n")
         data = bytes.fromhex(line.decode("ascii"))
-        if calls.parse(data)[0] == "show":
+        if not tally or calls.parse(data)[0] == "show":
             continue
         answer = text.split("\t")[0]
         if answer[0] == "R" and vars(before) != vars(script.function):
@@ -138,13 +144,15 @@ def show(counts, totals):
 
 def main(directory):
     """Write all files; the exit status."""
-    counts, files, tally = {}, {}, reached.Tally()
+    counts, files = {}, {}
+    tally = reached.Tally(reached_roles.Roles(), reached_order.Order())
     files["listing"] = make("listing", cases_listing.cases(Rng(1)),
                             listing.row, counts)
     # The last line of the listing's input has no line feed.
     files["listing"] = files["listing"][0][:-1], files["listing"][1]
     files["packets"] = make_packets(counts)
-    files["calls"] = make_calls(Rng(5), tally)
+    files["calls"] = make_calls(cases_calls.cases(Rng(SEED)), tally)
+    files["hand"] = make_calls(cases_calls.long_run())
 
     # The stream form of the listing must say the same, in blocks of any size.
     for block in (1, 7, 4096):
@@ -158,8 +166,9 @@ def main(directory):
     os.makedirs(directory, exist_ok=True)
     totals = {}
     for name, (asked, answered) in files.items():
-        for data, suffix in ((asked, "stdin"), (answered, "stdout")):
-            if len(data) > 1000 * LARGEST[name]:
+        for data, suffix, most in zip((asked, answered),
+                                      ("stdin", "stdout"), LARGEST[name]):
+            if len(data) >= 1000 * most:
                 raise AssertionError("%s.%s is too large" % (name, suffix))
             with open(os.path.join(directory, name + "." + suffix),
                       "wb") as out:

@@ -133,8 +133,8 @@ def size(word):
     """(base, log2 of the size) of a translation or INV body, None if none.
 
     Document 01, "Sizes": bit 11 says whether the address bits code a size.
-    If so, the lowest zero bit b from bit 12 up ends the code: the size is
-    2 to the power b + 1. With no zero bit there is no size.
+    If so, ones from bit 12 up count doublings and a zero bit ends them:
+    a zero at b says 2 to the power b + 1. Without one there is no size.
     """
     if not word >> 11 & 1:
         return word & ALL_PAGE_BITS, 12
@@ -293,8 +293,16 @@ def write(fields, payload, room):
     return packet
 
 
+def write_into(fields, payload, buffer):
+    """Put a packet at the start of a lent bytearray; what write gives."""
+    packet = write(fields, payload, len(buffer))
+    if not isinstance(packet, int):
+        buffer[:len(packet)] = packet
+    return packet
+
+
 def _misplaced(fields):
-    """Is a field outside its bits, an address's low bits included?"""
+    """Has a value, or an address's low part, no place in the packet?"""
     for name, value in vars(fields).items():
         if not 0 <= value < VALUES[name]:
             return True

@@ -725,11 +725,12 @@ SITUATIONS = {
 
 
 class Tally:
-    """Counts of cells and of situations."""
+    """Counts of cells and of situations, and what others count."""
 
-    def __init__(self):
+    def __init__(self, *more):
         self.cells = {}
         self.situations = {}
+        self.more = more        # counters that look at each call as well
 
     def add(self, before, after, data, answer):
         """Count one call."""
@@ -739,6 +740,8 @@ class Tally:
         for name, holds in SITUATIONS[seen.row](seen):
             key = seen.row, name
             self.situations[key] = self.situations.get(key, 0) + bool(holds)
+        for counter in self.more:
+            counter.add(seen)
 
     def faults(self):
         """What should have come and did not, and the other way round."""
@@ -753,6 +756,8 @@ class Tally:
         for (row, name), count in self.situations.items():
             if not count:
                 out.append("never seen: %s, %s" % (row, name))
+        for counter in self.more:
+            out.extend(counter.faults())
         return out
 
     def table(self):
@@ -769,3 +774,5 @@ class Tally:
         rarest = min(self.situations.values())
         yield "situations: %d, the rarest seen %d times" % (
             len(self.situations), rarest)
+        for counter in self.more:
+            yield counter.line()

@@ -10,7 +10,7 @@ import packets
 from calls import record
 from cases_reading import forbidden
 from cases_sizes import coded
-from function import GROUPS, SLOTS, TAGS
+from function import SLOTS, TAGS
 from rng import Rng
 
 US, AGENT, OTHER = 0x0100, 0x0008, 0x0009
@@ -579,9 +579,13 @@ PAGES = ("credits and groups", ((reset(), "D"),
     (PAGES_OFF, "D"), (want_page(0x3000, 3, 1), "R15"),
     (respond(2, 0), "R7"), (respond(2, 15), "R7"), (PAGES_OFF, "D"),
     (pages_on(512), "D"),
-) + tuple((want_page(0x1000 * i, i % GROUPS, 3), "D") for i in range(511)) + (
-    (want_page(0x4000, 1, 5), "D"), (want_page(0x4000, 2, 5), "R16"),
-    (respond(1, 0), "D"), (want_page(0x4000, 2, 5), "D"),
+) + tuple((want_page(0x1000 * i, 31 * (i % 2), 3), "D")
+          for i in range(510)) + (
+    (want_page(0x4000, 31, 5), "D"), (want_page(0x4000, 0, 5), "D"),
+    (want_page(0x4000, 2, 5), "R16"),
+    # Two groups of 256 requests each: all their credits come back.
+    (respond(31, 1), "D"), (want_page(0x4000, 2, 5), "D"),
+    (respond(0, 0), "D"), (want_page(0x4000, 1, 5), "D"),
     (respond(511, 2), "D"), (want_page(0x4000, 2, 5), "R15"),
     (respond(2, 0), "R7"), (respond(2, 2), "R7"), (pages_on(1), "R15"),
     (pages_on(0), "R15"), (PAGES_OFF, "D"), (pages_on(1), "R15"),

@@ -3,8 +3,8 @@
 The examples and the listing's example of document 01, packets worked out by
 hand from its table, and round trips both ways, where what is left of a packet
 is told by the masks and not by the writer. For the Function: examples 3, 4, 5,
-8 and 9, cases worked out by hand, the form of its scripts, and that no refused
-call changes anything.
+8 and 9, cases worked out by hand, the form of its scripts, that no refused
+call changes anything, and that the script of calls catches every wrong card.
 """
 
 import io
@@ -13,16 +13,22 @@ import sys
 sys.dont_write_bytecode = True
 
 import calls
+import cases_calls
 import cases_reading
 import cases_writing
+import caught
 import drivers
+import generate
 import listing
 import masks
 import packets
 import reached
+import reached_order
+import reached_roles
 import records
 import samples
 import scripts_calls
+import wrong_cards
 from function import (OFF, ON, STOPPED, Entry, Function, Group, OpenRead,
                       OpenTr, Outcome)
 from packets import (Cpl, CplData, Ic, Inv, MemRead, MemWrite, Prq, Prs, Tr,
@@ -107,8 +113,8 @@ def by_hand():
 
 def over_long():
     """More than 144 bytes, which no line of hex can bring to the reader."""
-    for first in ("40000022 0100000F", "4A000022 01000000", "FF000000 00000000",
-                  "72000021 01000003"):
+    for first in ("40000022 0100000F", "4A000022 01000000",
+                  "FF000000 00000000", "72000021 01000003"):
         for count in (145, 148, 1000):
             same("over", read(bytes.fromhex(first) + bytes(count - 8)), 1)
     same("empty", read(b""), 1)
@@ -159,6 +165,23 @@ def round_trips():
             same("data back", packets.payload_of(fields, packet), data)
             same("nothing unnamed", masks.without_ignored(
                 form_of(fields, packet), packet), packet)
+
+
+def lent_buffers():
+    """What the writing test shows of the buffer."""
+    same("lent", drivers.lent(253)[:3].hex() + drivers.lent(253)[249:].hex(),
+         "fffefd" + "0605fffe")
+    prs = b"08000F0E%04XD00D0F0101"
+    packet = "320000000F0E0005D00DF10100000000"
+    same("exact", drivers.writing(prs % 16), packet + "\t")
+    same("larger", drivers.writing(prs % 19), packet + "\tEFEEED")
+    same("short", drivers.writing(prs % 15),
+         "BAD\t17\tFFFEFDFCFBFAF9F8F7F6F5F4F3F2F1")
+    same("none", drivers.writing(prs % 0), "BAD\t17\t")
+    same("TC", drivers.writing(b"08010F0E0002D00D0F0101"), "BAD\t4\tFFFE")
+    buffer = bytearray(b"abcd" * 5)
+    got = packets.write_into(BY_HAND[0][0], b"", buffer)
+    same("written into", buffer, bytearray(got + b"abcd"))
 
 
 def lines():
@@ -538,7 +561,7 @@ def script_form():
 def refusals():
     """No refused call changes anything; the fixed scripts."""
     script = calls.Script()
-    for title, steps in scripts_calls.SCRIPTS:
+    for title, steps in cases_calls.FIXED:
         for step in steps:
             before = script.function.copy()
             text = scripts_calls.check(script, title, step)
@@ -550,6 +573,22 @@ def refusals():
     f.disable()
     f.reset(1, 1, 64)
     same("a copy is another", vars(before), vars(rich()))
+
+
+def wrong():
+    """The script catches every wrong card, and the right one is right."""
+    lines = [line for line, _ in cases_calls.cases(Rng(generate.SEED))]
+    long_run = [line for line, _ in cases_calls.long_run()]
+    results = caught.all_cards(lines, long_run)
+    for name, sentence, places in results:
+        wanted = caught.wanted(name)
+        same("caught by %d lines: %s: %s" % (len(places), name, sentence),
+             len(places) >= wanted, True)
+    same("cards", len(results) >= 700, True)
+    same("the right card", caught.catches(
+        "drain", wrong_cards.METHODS["drain"], caught.PLAYED["calls"]), [])
+    print("wrong cards: %d, each caught by %d lines or more but for %d"
+          % (len(results), caught.WANTED, len(wrong_cards.ONCE)))
 
 
 def rows():
@@ -570,11 +609,22 @@ def rows():
          ["12", "T", "C0", "C", "D", "X"])
     same("rows", list(reached.REACHABLE), [row for row in reached.REACHABLE
                                            if row in reached.SITUATIONS])
+    roles, order = reached_roles.Roles(), reached_order.Order()
+    same("no role yet", len(list(roles.faults())),
+         32 * len(reached_roles.ROLES) + len(reached_roles.HAND_PASSES)
+         + len(reached_roles.DRAINS) + 1)
+    same("no pair yet", len(list(order.faults())), len(order.pairs))
+    same("pairs", (reached_order.pairs_of("pages on"),
+                   len(reached_order.pairs_of("read")),
+                   ("13", "14") in reached_order.pairs_of("read")),
+         ([("15", "12")], 14, False))
 
 
-for part in (examples, by_hand, over_long, round_trips, lines,
+for part in (examples, by_hand, over_long, round_trips,
+             lent_buffers, lines,
              function_examples, new_and_reset, switches, fills, two_packets,
-             reads_and_itags, page_groups, script_form, refusals, rows):
+             reads_and_itags, page_groups, script_form, refusals, rows,
+             wrong):
     part()
 for text in failed[:20]:
     print(text)

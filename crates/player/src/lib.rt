@@ -6,6 +6,7 @@ use records::take;
 use state::Answer;
 use state::Effect;
 use state::Function;
+use trial::Spelled;
 
 // The Function after a line, and how far the output goes.
 struct Played {
@@ -102,12 +103,12 @@ fn play_record(f: Function, r: &[u8], out: &mut [u8], at: usize) -> Played {
 
 fn play_line(f: Function, line: &[u8], out: &mut [u8], at: usize) -> Played {
     let mut space = [0u8; 256];
-    let n = trial::unhex(line, &mut space);
-    if n <= 256 {
-        play_record(f, take::front(&space, n), out, at)
-    } else {
-        let end = put::bad(out, at, 0);
-        Played { state: f, at: end }
+    match trial::unhex(line, &mut space) {
+        Spelled::Bytes(n) => play_record(f, take::front(&space, n), out, at),
+        Spelled::Nothing => {
+            let end = put::bad(out, at, 0);
+            Played { state: f, at: end }
+        }
     }
 }
 

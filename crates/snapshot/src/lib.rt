@@ -11,6 +11,7 @@ use tags::Fetch;
 use tags::Open;
 use tags::Place;
 use tags::Tr;
+use trial::Spelled;
 ghost use Prim.Native.Nat.{_≤_};
 
 fn flag(x: bool, value: u8) -> u8 {
@@ -191,8 +192,10 @@ fn digest(bytes: &[u8]) -> u32 {
 }
 
 fn digest_of(text: &[u8], bytes: &mut [u8]) -> u32 {
-    let n = trial::unhex(text, bytes);
-    digest(take::front(bytes, n))
+    match trial::unhex(text, bytes) {
+        Spelled::Bytes(n) => digest(take::front(bytes, n)),
+        Spelled::Nothing => 0,
+    }
 }
 
 pub fn state_digest(f: Function) -> u32 {

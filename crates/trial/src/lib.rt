@@ -8,7 +8,15 @@ use records::take;
 use span::Size;
 use span::Translation;
 ghost use Prim.Native.Nat.{_≤_};
+ghost use mathlib.Core.Path.{_≡_};
 ghost use lib.ListN.{length};
+
+// Room for all that a test program reads, or writes.
+pub fn large_buffer() -> [u8; 1310720]
+    ensures { λ r. ⌜ 1310720 ≡ length r ⌝ }
+{
+    [0; 1310720]
+}
 
 // How long the first line of a text is: to its line feed, or to the end.
 pub fn line_length(text: &[u8]) -> usize
@@ -24,40 +32,43 @@ pub fn line_length(text: &[u8]) -> usize
     at
 }
 
-// The bytes that a line spells, as many as there is room for; over 600 where a character is no
-// hex digit, the count is odd, or the line is longer.
-pub fn unhex(line: &[u8], bytes: &mut [u8]) -> usize {
+// What a line spells in hex: so many bytes; or nothing, where its count of characters is odd, one of
+// them is no digit, or there are more bytes than there is room for.
+pub enum Spelled {
+    Bytes(usize),
+    Nothing,
+}
+
+pub fn unhex(line: &[u8], bytes: &mut [u8]) -> Spelled {
     if line.len() % 2 == 1 {
-        return 601;
+        return Spelled::Nothing;
     }
     let n = line.len() / 2;
+    if bytes.len() < n {
+        return Spelled::Nothing;
+    }
     let mut i = 0;
     while i < n {
         let high = text::hex_value(line[i * 2]);
         let low = text::hex_value(line[i * 2 + 1]);
         if 16 <= high {
-            return 601;
+            return Spelled::Nothing;
         }
         if 16 <= low {
-            return 601;
+            return Spelled::Nothing;
         }
         put::byte(bytes, i, high * 16 + low);
         i += 1;
     }
-    n
-}
-
-fn put_written(w: Writing, bytes: &[u8], out: &mut [u8], at: usize) -> usize {
-    match w {
-        Writing::Written(n) => put::hexes(out, at, take::front(bytes, n)),
-        Writing::Refused(r) => put::bad(out, at, packet::number(r)),
-    }
+    Spelled::Bytes(n)
 }
 
 fn put_again(p: Packet, payload: &[u8], out: &mut [u8], at: usize) -> usize {
     let mut space = [0u8; 144];
-    let w = writer::write_packet(p, payload, &mut space);
-    put_written(w, &space, out, at)
+    match writer::write_packet(p, payload, &mut space) {
+        Writing::Written(n) => put::hexes(out, at, take::front(&space, n)),
+        Writing::Refused(r) => put::bad(out, at, packet::number(r)),
+    }
 }
 
 // A packet's record, a tab, and the packet written again.
@@ -73,23 +84,43 @@ fn read_one(b: &[u8], out: &mut [u8], at: usize) -> usize {
     }
 }
 
-fn write_into(r: &[u8], space: &mut [u8], room: usize, out: &mut [u8], at: usize) -> usize {
-    if room <= space.len() {
-        let w = writer::write_packet(
-            records::take_packet(r),
-            records::take_payload(r),
-            &mut space[..room],
-        );
-        put_written(w, space, out, at)
-    } else {
-        at
+// Gives the bytes of a buffer values that show where one of them was changed or moved.
+fn mark(space: &mut [u8]) {
+    let mut i = 0;
+    while i < space.len() {
+        space[i] = 255 - (i % 251) as u8;
+        i += 1;
     }
 }
 
-// The packet of a record, written into a buffer as long as the record says.
+// A packet, a tab, and the rest of the buffer that it was written into; or the refusal, a tab, and the
+// whole buffer.
+fn put_written(w: Writing, space: &[u8], out: &mut [u8], at: usize) -> usize {
+    match w {
+        Writing::Written(n) => {
+            let a = put::hexes(out, at, take::front(space, n));
+            let b = put::byte(out, a, b'\t');
+            put::hexes(out, b, take::part(space, n))
+        }
+        Writing::Refused(r) => {
+            let a = put::bad(out, at, packet::number(r));
+            let b = put::byte(out, a, b'\t');
+            put::hexes(out, b, space)
+        }
+    }
+}
+
+fn write_into(r: &[u8], space: &mut [u8], out: &mut [u8], at: usize) -> usize {
+    mark(space);
+    let w = writer::write_packet(records::take_packet(r), records::take_payload(r), space);
+    put_written(w, space, out, at)
+}
+
+// The packet of a record, written into a buffer as long as the record says; no record says more than 512.
 fn write_one(r: &[u8], out: &mut [u8], at: usize) -> usize {
     let mut space = [0u8; 512];
-    write_into(r, &mut space, take::num16(r, 4) as usize, out, at)
+    let room = take::num16(r, 4) as usize % 513;
+    write_into(r, &mut space[..room], out, at)
 }
 
 // The base, the size's exponent, and N, U, W and R.
@@ -133,12 +164,10 @@ fn tried(what: u8, line: &[u8], out: &mut [u8], at: usize) -> usize {
     if is_too_long(what, line.len()) {
         return put::bad(out, at, 1);
     }
-    let mut space = [0u8; 600];
-    let n = unhex(line, &mut space);
-    if n <= 600 {
-        decoded(what, take::front(&space, n), out, at)
-    } else {
-        put::bad(out, at, 0)
+    let mut space = [0u8; 4200];
+    match unhex(line, &mut space) {
+        Spelled::Bytes(n) => decoded(what, take::front(&space, n), out, at),
+        Spelled::Nothing => put::bad(out, at, 0),
     }
 }
 

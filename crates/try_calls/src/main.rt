@@ -1,5 +1,5 @@
 fn main() {
-    let mut input = [0u8; 524288];
-    let mut output = [0u8; 524288];
+    let mut input = trial::large_buffer();
+    let mut output = trial::large_buffer();
     player::serve(&mut input, &mut output);
 }

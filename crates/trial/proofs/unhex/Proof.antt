@@ -14,6 +14,9 @@ abbrev μ-loop : tie.MeasureT-loop
 returns : tie.Need-returns Inv-loop μ-loop
 returns c = search needs
 
+returns-2 : tie.Need-returns-2 Inv-loop μ-loop
+returns-2 c = search needs
+
 loop-holds : tie.Need-loop-holds Inv-loop μ-loop
 loop-holds c = search needs
 
@@ -41,14 +44,14 @@ hex-value-requires-2 c κs = search needs
 same-length : tie.Need-same-length Inv-loop μ-loop
 same-length c = search needs
 
-returns-2 : tie.Need-returns-2 Inv-loop μ-loop
-returns-2 c = search needs
+returns-3 : tie.Need-returns-3 Inv-loop μ-loop
+returns-3 c = search needs
 
 same-length-2 : tie.Need-same-length-2 Inv-loop μ-loop
 same-length-2 c = search needs
 
-returns-3 : tie.Need-returns-3 Inv-loop μ-loop
-returns-3 c = search needs
+returns-4 : tie.Need-returns-4 Inv-loop μ-loop
+returns-4 c = search needs
 
 mul-byte : tie.Need-mul-byte Inv-loop μ-loop
 mul-byte c = search needs
@@ -71,8 +74,8 @@ loop-again c = search needs
 same-length-3 : tie.Need-same-length-3 Inv-loop μ-loop
 same-length-3 c = search needs
 
-returns-4 : tie.Need-returns-4 Inv-loop μ-loop
-returns-4 c = search needs
+returns-5 : tie.Need-returns-5 Inv-loop μ-loop
+returns-5 c = search needs
 
 pub unhex-spec : {M : Type 1} → statement M
 unhex-spec =
@@ -81,6 +84,7 @@ unhex-spec =
     Inv-loop
     μ-loop
     returns
+    returns-2
     loop-holds
     mul-hex-value
     shared-slice-read-hex-value
@@ -90,9 +94,9 @@ unhex-spec =
     shared-slice-read-hex-value-2
     hex-value-requires-2
     same-length
-    returns-2
-    same-length-2
     returns-3
+    same-length-2
+    returns-4
     mul-byte
     add-byte
     byte-requires
@@ -100,4 +104,4 @@ unhex-spec =
     loop-less
     loop-again
     same-length-3
-    returns-4)
+    returns-5)

@@ -1,0 +1,918 @@
+"""Runs functions of Rattle on drawn arguments, to see whether an edit changes what a function does, and at which of its returns.
+
+Functions of the same crate are run; those of other crates are unknown functions: the same arguments give the same result, drawn by its type. Numbers are drawn from those that stand in the
+code, their neighbours, small ones and any. This is a test and no proof: it can miss a difference, and it can find one that the contracts of other crates exclude."""
+import glob
+import hashlib
+import os
+import re
+
+TOKEN = re.compile(r"""(?:\s+|//[^\n]*)*(?:(?P<text>b?"(?:\\.|[^"\\])*")|(?P<char>b'(?:\\.|[^'\\])')|(?P<num>0x[0-9A-Fa-f_]+|[0-9][0-9_]*)(?:u8|u16|u32|u64|usize)?
+    |(?P<life>'\w+)|(?P<name>[A-Za-z_]\w*)|(?P<op><<=|>>=|\.\.=|::|->|=>|==|!=|<=|>=|&&|\|\||<<|>>|[-+*/%|&^]=|\.\.|[-+*/%&|^!=<>.,;:(){}\[\]\#@])|(?P<end>$))""", re.X)
+NOT_CODE = re.compile(r"^\s*(?:requires|ensures|pub ghost|ghost)\b.*$", re.M)
+ASKED = re.compile(r"⌜ (\w+) ([≤<]) (\w+) ⌝")
+BITS = {"u8": 8, "u16": 16, "u32": 32, "u64": 64, "usize": 64}
+LEVELS = [["||"], ["&&"], ["==", "!=", "<", ">", "<=", ">="], ["|"], ["^"], ["&"], ["<<", ">>"], ["+", "-"], ["*", "/", "%"]]
+ESCAPES = {"n": 10, "t": 9, "r": 13, "0": 0, "\\": 92, "'": 39, '"': 34}
+MOST_STEPS = 30000
+
+
+class Unknown(Exception):
+    """A form that this does not read or run."""
+
+
+class Trap(Exception):
+    """What a proved function never does: an index out of range, a difference below 0, or no end."""
+
+
+class Returned(Exception):
+    pass
+
+
+class Left(Exception):
+    """A `break` or `continue`."""
+
+
+class Node:
+    """A piece of code: its kind, its parts, and where it stands."""
+
+    def __init__(self, kind, at, *parts):
+        self.kind, self.at, self.parts, self.counts = kind, at, parts, False
+
+
+class Fn:
+    def __init__(self, crate, name, params, result, body, text):
+        self.crate, self.name, self.params, self.result, self.body, self.text = crate, name, params, result, body, text
+        self.asks = []
+        self.ends = [trail for trail, _ in trails(body)] if body else []
+
+    def part_at(self, end):
+        """The part of the proof that is about an end of the function, or None."""
+        if end not in self.ends:
+            return None
+        k = self.ends.index(end) + 1
+        return "returns" if k == 1 else "returns-%d" % k
+
+
+def trails(node):
+    """The ways through a piece of code in the order in which the prover numbers them: at each, which branches it takes outside of loops, and whether the function ends on it."""
+    kind, parts = node.kind, node.parts
+    if kind == "return":
+        return [((), True)]
+    if kind == "block":
+        return in_turn([trails(one) for one in parts[0]] + ([trails(parts[1])] if parts[1] else []))
+    if kind == "if":
+        node.counts = True
+        return branches([parts[1], parts[2]])
+    if kind == "match":
+        node.counts = True
+        return branches([body for _, body in parts[1]])
+    if kind == "while":
+        return [((at,), True) for at in returns_in(parts[1])] + [((), False)]
+    return [((), False)]
+
+
+def in_turn(stretches):
+    found = [((), False)]
+    for stretch in stretches:
+        found = [way for trail, over in found for way in ([(trail, True)] if over else [(trail + more, ends) for more, ends in stretch])]
+    return found
+
+
+def branches(bodies):
+    return [((k,) + trail, over) for k, body in enumerate(bodies) for trail, over in (trails(body) if body else [((), False)])]
+
+
+def returns_in(node):
+    if node.kind == "return":
+        return ["return at %d" % node.at]
+    found = []
+    for part in node.parts:
+        for one in part if isinstance(part, list) else [part]:
+            inner = one[1] if isinstance(one, tuple) else one
+            found += returns_in(inner) if isinstance(inner, Node) else []
+    return found
+
+
+class Parser:
+    def __init__(self, text):
+        text = NOT_CODE.sub("", text)
+        self.text, self.words, self.k = text, [], 0
+        at = 0
+        while at < len(text):
+            found = TOKEN.match(text, at)
+            if not found:
+                raise Unknown("no word of Rattle: " + text[at:at + 20])
+            self.words.append((found.lastgroup, found[found.lastgroup], found.start(found.lastgroup)))
+            at = found.end()
+        if not self.words or self.words[-1][0] != "end":
+            self.words.append(("end", "", len(text)))
+
+    def now(self, n=0):
+        return self.words[min(self.k + n, len(self.words) - 1)][1]
+
+    def at(self):
+        return self.words[self.k][2]
+
+    def take(self, word=None):
+        got = self.words[self.k]
+        if word is not None and got[1] != word:
+            raise Unknown("%r where %r should stand" % (got[1], word))
+        self.k += 1
+        return got[1]
+
+    def took(self, word):
+        if self.now() == word and self.words[self.k][0] in ("op", "name"):
+            self.k += 1
+            return True
+        return False
+
+    def listed(self, close, one):
+        found = []
+        while not self.took(close):
+            found.append(one())
+            if not self.took(","):
+                self.take(close)
+                break
+        return found
+
+    def skip_braces(self, opened="{", close="}"):
+        depth = 0
+        while True:
+            word = self.take()
+            depth += (word == opened) - (word == close)
+            if depth == 0:
+                return
+
+    def type(self):
+        if self.took("&"):
+            if self.words[self.k][0] == "life":
+                self.take()
+            return ("ref", self.took("mut"), self.type())
+        if self.took("["):
+            inner = self.type()
+            if self.took(";"):
+                size = self.expression()
+                self.take("]")
+                return ("array", inner, size)
+            self.take("]")
+            return ("slice", inner)
+        name = self.path()[-1]
+        return ("int", BITS[name]) if name in BITS else ("bool",) if name == "bool" else ("name", name)
+
+    def path(self):
+        names = [self.take()]
+        while self.now() == "::":
+            self.take()
+            names.append(self.take())
+        return names
+
+    # items
+
+    def items(self, crate):
+        """The functions, types and constants of a file."""
+        fns, types, consts = [], {}, {}
+        while self.words[self.k][0] != "end":
+            if self.took("#"):
+                self.skip_braces("[", "]")
+                continue
+            self.public()
+            word = self.take()
+            if word in ("mod", "use"):
+                while not self.took(";"):
+                    self.take()
+            elif word == "const":
+                name = self.take()
+                self.take(":")
+                self.type()
+                self.take("=")
+                start = self.at()
+                consts[name] = self.expression()
+                consts[name].text = self.text[start:self.at()]
+                self.take(";")
+            elif word == "struct":
+                name = self.take()
+                types[name] = ("struct", self.fields())
+            elif word == "enum":
+                name = self.take()
+                self.take("{")
+                types[name] = ("enum", self.listed("}", self.variant))
+            elif word == "extern":
+                self.take()
+            elif word == "fn":
+                fns.append(self.function(crate))
+            else:
+                raise Unknown("no item of Rattle: " + word)
+        return fns, types, consts
+
+    def fields(self):
+        if self.took("("):
+            inner = self.listed(")", lambda: (self.public(), self.type())[1])
+            self.take(";")
+            return [(str(i), t) for i, t in enumerate(inner)]
+        self.take("{")
+        return self.listed("}", self.field)
+
+    def public(self):
+        if self.took("pub") and self.now() == "(":
+            self.skip_braces("(", ")")
+
+    def field(self):
+        self.public()
+        name = self.take()
+        self.take(":")
+        return name, self.type()
+
+    def variant(self):
+        name = self.take()
+        return name, self.listed(")", self.type) if self.took("(") else []
+
+    def function(self, crate):
+        name = self.take()
+        start = self.at()
+        if self.took("<"):
+            self.skip_until(">")
+        self.take("(")
+        params = self.listed(")", self.parameter)
+        result = self.type() if self.took("->") else ("unit",)
+        if self.took(";"):
+            return Fn(crate, name, params, result, None, "")
+        body = self.block()
+        return Fn(crate, name, params, result, body, re.sub(r"\s+", " ", self.text[start:self.words[self.k - 1][2]]))
+
+    def skip_until(self, word):
+        while self.take() != word:
+            pass
+
+    def parameter(self):
+        self.took("mut")
+        name = self.take()
+        self.take(":")
+        return name, self.type()
+
+    # statements and expressions
+
+    def block(self):
+        at = self.at()
+        self.take("{")
+        statements = []
+        while True:
+            if self.took("}"):
+                return Node("block", at, statements, None)
+            if self.now() == "let":
+                statements.append(self.let())
+                continue
+            one = self.expression()
+            if self.took("}"):
+                return Node("block", at, statements, one)
+            if not self.took(";") and one.kind not in ("if", "iflet", "match", "while", "for", "loop", "block"):
+                raise Unknown("no end of a statement before " + self.now())
+            statements.append(one)
+
+    def let(self):
+        at = self.at()
+        self.take("let")
+        pattern = self.pattern()
+        if self.took(":"):
+            self.type()
+        self.take("=")
+        value = self.expression()
+        other = self.block() if self.took("else") else None
+        self.take(";")
+        return Node("let", at, pattern, value, other)
+
+    def pattern(self):
+        at = self.at()
+        found = [self.pattern_one()]
+        while self.took("|"):
+            found.append(self.pattern_one())
+        return found[0] if len(found) == 1 else Node("either", at, found)
+
+    def pattern_one(self):
+        at = self.at()
+        self.took("mut")
+        if self.words[self.k][0] in ("num", "char"):
+            low = self.number()
+            if self.took("..="):
+                return Node("range", at, low, self.number())
+            return Node("is", at, low)
+        names = self.path()
+        inner = self.listed(")", self.pattern) if self.took("(") else []
+        if names == ["_"]:
+            return Node("any", at)
+        if names in (["true"], ["false"]):
+            return Node("is", at, names == ["true"])
+        if len(names) == 1 and not inner:
+            return Node("bind", at, names[0])
+        return Node("case", at, names[-1], inner)
+
+    def number(self):
+        kind, word = self.words[self.k][:2]
+        self.k += 1
+        if kind == "char":
+            inside = word[2:-1]
+            return ESCAPES[inside[1]] if inside[0] == "\\" else ord(inside)
+        return int(word.replace("_", ""), 0)
+
+    def expression(self, bare=False):
+        """`bare`: no struct literal, as before the block of an `if`."""
+        at = self.at()
+        if self.took("return"):
+            return Node("return", at, None if self.now() in (";", "}") else self.expression(bare))
+        if self.now() in ("break", "continue"):
+            return Node(self.take(), at)
+        place = self.level(0, bare)
+        for op in ("=", "+=", "-=", "*=", "/=", "%=", "|=", "&=", "^=", "<<=", ">>="):
+            if self.took(op):
+                return Node("assign", at, op[:-1], place, self.expression(bare))
+        return place
+
+    def level(self, n, bare):
+        if n == len(LEVELS):
+            return self.cast(bare)
+        at = self.at()
+        left = self.level(n + 1, bare)
+        while self.words[self.k][0] == "op" and self.now() in LEVELS[n]:
+            op = self.take()
+            left = Node("binary", at, op, left, self.level(n + 1, bare))
+        return left
+
+    def cast(self, bare):
+        at = self.at()
+        one = self.unary(bare)
+        while self.took("as"):
+            one = Node("cast", at, one, self.type())
+        return one
+
+    def unary(self, bare):
+        at = self.at()
+        if self.took("!"):
+            return Node("not", at, self.unary(bare))
+        if self.took("&"):
+            return Node("lend" if self.took("mut") else "view", at, self.unary(bare))
+        return self.after(self.simple(bare))
+
+    def after(self, one):
+        while True:
+            at = self.at()
+            if self.took("."):
+                name = self.take()
+                if name == "len" and self.took("("):
+                    self.take(")")
+                    one = Node("len", at, one)
+                else:
+                    one = Node("field", at, one, name)
+            elif self.took("["):
+                low = None if self.now() == ".." else self.expression()
+                if self.took(".."):
+                    high = None if self.now() == "]" else self.expression()
+                    one = Node("part", at, one, low, high)
+                else:
+                    one = Node("index", at, one, low)
+                self.take("]")
+            elif self.now() == "(" and one.kind == "path":
+                self.take()
+                one = Node("call", one.at, one.parts[0], self.listed(")", self.expression))
+            else:
+                return one
+
+    def simple(self, bare):
+        at, (kind, word) = self.at(), self.words[self.k][:2]
+        if kind in ("num", "char"):
+            return Node("number", at, self.number())
+        if kind == "text":
+            self.take()
+            inside = re.findall(r"\\.|[^\\]", word[2:-1])
+            return Node("array", at, [Node("number", at, ESCAPES[c[1]] if c[0] == "\\" else ord(c)) for c in inside])
+        if self.took("("):
+            if self.took(")"):
+                return Node("unit", at)
+            one = self.expression()
+            self.take(")")
+            return one
+        if self.took("["):
+            if self.took("]"):
+                return Node("array", at, [])
+            first = self.expression()
+            if self.took(";"):
+                size = self.expression()
+                self.take("]")
+                return Node("repeat", at, first, size)
+            if self.took("]"):
+                return Node("array", at, [first])
+            self.take(",")
+            return Node("array", at, [first] + self.listed("]", self.expression))
+        if word == "{":
+            return self.block()
+        if self.took("if"):
+            return self.condition(at)
+        if self.took("match"):
+            value = self.expression(True)
+            self.take("{")
+            arms = []
+            while not self.took("}"):
+                pattern = self.pattern()
+                self.take("=>")
+                arms.append((pattern, self.expression()))
+                self.took(",")
+            return Node("match", at, value, arms)
+        if self.took("while"):
+            return Node("while", at, self.expression(True), self.block())
+        if self.took("loop"):
+            return Node("while", at, Node("number", at, True), self.block())
+        if kind != "name":
+            raise Unknown("no expression begins with " + word)
+        names = self.path()
+        if names in (["true"], ["false"]):
+            return Node("number", at, names == ["true"])
+        if self.now() == "{" and not bare and names[-1][0].isupper():
+            self.take()
+            return Node("struct", at, names[-1], self.listed("}", self.given))
+        return Node("path", at, names)
+
+    def given(self):
+        at, name = self.at(), self.take()
+        return name, self.expression() if self.took(":") else Node("path", at, [name])
+
+    def condition(self, at):
+        if self.took("let"):
+            pattern = self.pattern()
+            self.take("=")
+            value, then = self.expression(True), self.block()
+            return Node("match", at, value, [(pattern, then), (Node("any", at), self.otherwise(at) or Node("unit", at))])
+        return Node("if", at, self.expression(True), self.block(), self.otherwise(at))
+
+    def otherwise(self, at):
+        if not self.took("else"):
+            return None
+        return self.condition(at) if self.took("if") else self.block()
+
+
+class Crate:
+    """The code of a crate, from its files' texts."""
+
+    def __init__(self, name, texts):
+        self.name, self.fns, self.types, self.consts = name, {}, {}, {}
+        for text in texts:
+            fns, types, consts = Parser(text).items(name)
+            asked = dict(re.findall(r"fn (\w+)\b[^{]*?requires \{ ([^}]*) \}", text))
+            for fn in fns:
+                fn.asks = ASKED.findall(asked.get(fn.name, ""))
+                self.fns.setdefault(fn.name, []).append(fn)
+            self.types.update(types)
+            self.consts.update(consts)
+        for fn in [fn for fns in self.fns.values() for fn in fns]:
+            fn.text += "".join(" " + self.consts[name].text for name in self.consts if re.search(r"\b%s\b" % name, fn.text))
+
+
+def texts_of(folder):
+    return {os.path.relpath(p, folder): open(p, encoding="utf-8").read() for p in sorted(glob.glob(folder + "/src/**/*.rt", recursive=True))}
+
+
+# values: numbers and booleans as Python's, and these
+
+class Record:
+    """A struct: fields that were given, and others drawn when they are looked at."""
+
+    def __init__(self, run, kind, key, given):
+        self.run, self.kind, self.key, self.given = run, kind, key, given
+
+    def get(self, name):
+        if name not in self.given:
+            self.given[name] = self.run.draw(dict(self.run.type_of(self.kind)[1])[name], self.key + "." + name)
+        return self.given[name]
+
+    def put(self, name, value):
+        return Record(self.run, self.kind, self.key, dict(self.given, **{name: value}))
+
+    def told(self):
+        return "{%s}" % ",".join(told(self.get(name)) for name, _ in self.run.type_of(self.kind)[1])
+
+
+class Variant:
+    def __init__(self, name, inner):
+        self.name, self.inner = name, inner
+
+    def told(self):
+        return self.name + ("(%s)" % ",".join(map(told, self.inner)) if self.inner else "")
+
+
+class Row:
+    """An array or a slice: elements that were stored, and others drawn when they are looked at."""
+
+    def __init__(self, run, inner, size, key, stored=None, first=0):
+        self.run, self.inner, self.size, self.key, self.stored, self.first = run, inner, size, key, stored or {}, first
+
+    def drawn(self, i):
+        """Often all elements are alike."""
+        like = self.run.chance(self.key + "~") % 4
+        return self.run.draw(self.inner, "%s#%d" % (self.key, i if like > 1 else 0))
+
+    def get(self, i):
+        if not 0 <= i < self.size:
+            raise Trap("index")
+        i += self.first
+        return self.stored[i] if i in self.stored else self.drawn(i)
+
+    def put(self, i, value):
+        if not 0 <= i < self.size:
+            raise Trap("index")
+        i += self.first
+        stored = {k: v for k, v in self.stored.items() if k != i}
+        if not self.key or told(self.drawn(i)) != told(value):
+            stored[i] = value
+        return Row(self.run, self.inner, self.size, self.key, stored, self.first)
+
+    def part(self, low, high):
+        if not 0 <= low <= high <= self.size:
+            raise Trap("part")
+        return Row(self.run, self.inner, high - low, self.key, self.stored, self.first + low)
+
+    def told(self):
+        inside = ["%d:%s" % (i - self.first, told(v)) for i, v in sorted(self.stored.items()) if self.first <= i < self.first + self.size]
+        return "%s[%s]" % ("%s@%d+%d" % (self.key, self.first, self.size) if self.size and self.key else "", ",".join(inside))
+
+
+class Cell:
+    def __init__(self, value):
+        self.value = value
+
+
+class Lent:
+    """`&mut` of a row, or of a part of it."""
+
+    def __init__(self, cell, first, size):
+        self.cell, self.first, self.size = cell, first, size
+
+    def get(self, i):
+        if not 0 <= i < self.size:
+            raise Trap("index")
+        return self.cell.value.get(self.first + i)
+
+    def store(self, i, value):
+        if not 0 <= i < self.size:
+            raise Trap("index")
+        self.cell.value = self.cell.value.put(self.first + i, value)
+
+    def part(self, low, high):
+        return self.cell.value.part(self.first, self.first + self.size).part(low, high)
+
+    def lend(self, low, high):
+        if not 0 <= low <= high <= self.size:
+            raise Trap("part")
+        return Lent(self.cell, self.first + low, high - low)
+
+    def told(self):
+        return self.part(0, self.size).told()
+
+
+def told(value):
+    """A value as text: the same for values that are equal."""
+    return str(int(value)) if isinstance(value, (int, bool)) else value.told()
+
+
+class Run:
+    """One drawing of everything that is unknown."""
+
+    def __init__(self, crates, crate, pool, seed):
+        self.crates, self.crate, self.pool, self.seed = crates, crate, pool, seed
+        self.steps, self.loops, self.trail, self.echo = 0, 0, [], []
+
+    # what is unknown
+
+    def chance(self, key):
+        return int.from_bytes(hashlib.blake2b(("%d:%s" % (self.seed, key)).encode(), digest_size=16).digest(), "little")
+
+    def draw_number(self, bits, key):
+        by = self.chance(key)
+        how, by = by % 8, by >> 8
+        if how == 5 and self.echo:
+            return self.echo[by % len(self.echo)] % 2 ** bits
+        if how < 4:
+            return self.pool[by % len(self.pool)] % 2 ** bits
+        if how < 6:
+            return by % 40
+        return by % 2 ** bits if how == 6 else 2 ** bits - 1 - by % 5
+
+    def draw(self, kind, key):
+        if kind[0] == "int":
+            return self.draw_number(kind[1], key)
+        if kind[0] == "bool":
+            return self.chance(key) % 2 == 1
+        if kind[0] == "ref":
+            return self.draw(kind[2], key)
+        if kind[0] == "slice":
+            return Row(self, kind[1], self.draw_number(16, key + "#") % 300, key)
+        if kind[0] == "array":
+            return Row(self, kind[1], self.value(kind[2], {}), key)
+        if kind[0] == "unit":
+            return 0
+        shape, parts = self.type_of(kind[1])
+        if shape == "struct":
+            return Record(self, kind[1], key, {})
+        name, inner = parts[self.chance(key) % len(parts)]
+        return Variant(name, [self.draw(t, "%s(%d)" % (key, i)) for i, t in enumerate(inner)])
+
+    def type_of(self, name):
+        for crate in [self.crate] + [c for c in self.crates if c != self.crate]:
+            if name in self.crates[crate].types:
+                return self.crates[crate].types[name]
+        raise Unknown("no type " + name)
+
+    # calls
+
+    def start(self, fn):
+        """The function's outcome on drawn arguments: what it answers and what it leaves in lent rows; and where it ended."""
+        given = []
+        for name, kind in fn.params:
+            given.append(self.draw(kind, name))
+            if kind[0] == "int":
+                self.echo.append(given[-1])
+        known = {name: value for (name, _), value in zip(fn.params, given)}
+        for low, sign, high in fn.asks:
+            sides = [int(x) if x.isdigit() else known.get(x) for x in (low, high)]
+            if all(isinstance(x, int) for x in sides) and not (sides[0] < sides[1] or sign == "≤" and sides[0] == sides[1]):
+                raise Trap("not what it requires")
+        lent = [Cell(v) for v, (_, kind) in zip(given, fn.params) if kind[0] == "ref" and kind[1]]
+        cells = iter(lent)
+        given = [Lent(next(cells), 0, v.size) if kind[0] == "ref" and kind[1] else v for v, (_, kind) in zip(given, fn.params)]
+        answer = self.run(fn, given)
+        return told(answer) + "".join(";" + told(c.value) for c in lent), tuple(self.trail)
+
+    def run(self, fn, given):
+        env = {name: Cell(value) for (name, _), value in zip(fn.params, given)}
+        try:
+            return self.value(fn.body, env)
+        except Returned as r:
+            return r.args[0]
+
+    def run_called(self, fn, given):
+        self.steps += 10
+        kept = self.loops, self.trail
+        self.loops, self.trail = 0, []
+        answer = self.run(fn, given)
+        self.loops, self.trail = kept
+        return answer
+
+    def call(self, names, given):
+        name = names[-1]
+        wraps = re.match(r"wrapping_(add|sub)_u(\d+)$", name)
+        if wraps:
+            return (given[0] + given[1] if wraps[1] == "add" else given[0] - given[1]) % 2 ** int(wraps[2])
+        if name == "count_ones":
+            return bin(given[0]).count("1")
+        kind = names[-2] if len(names) > 1 else None
+        if kind and kind[0].isupper() and self.type_of(kind)[0] == "enum":
+            return Variant(name, given)
+        if name[0].isupper():
+            return Record(self, name, "", {str(i): v for i, v in enumerate(given)})
+        own = self.crates[self.crate].fns.get(name)
+        if own and (len(names) == 1 or names[0] not in self.crates):
+            return self.run_called(own[0], given)
+        return self.unknown(names, given)
+
+    def unknown(self, names, given):
+        """The answer of another crate's function, and what it leaves in rows that are lent to it."""
+        where = [names[0]] if names[0] in self.crates else []
+        for crate in where + list(self.crates):
+            if names[-1] in self.crates[crate].fns:
+                fn = self.crates[crate].fns[names[-1]][0]
+                break
+        else:
+            fn = Fn("", names[-1], [], ("unit",), None, "")
+        key = hashlib.blake2b((fn.crate + fn.name + "(%s)" % "|".join(map(told, given))).encode(), digest_size=12).hexdigest()
+        for k, v in enumerate(given):
+            if isinstance(v, Lent):
+                v.cell.value = Row(self, v.cell.value.inner or ("int", 8), v.cell.value.size, "%s:%d+%d" % (key, k, v.first))
+        return self.draw(fn.result, key)
+
+    # statements and expressions
+
+    def value(self, node, env):
+        self.steps += 1
+        if self.steps > MOST_STEPS:
+            raise Trap("no end")
+        if node.kind in ("if", "match"):
+            return self.branch(node, env)
+        return getattr(self, "do_" + node.kind)(node.at, env, *node.parts)
+
+    def branch(self, node, env):
+        """An `if` or `match`; the branch that is taken is noted outside of loops."""
+        if node.kind == "if":
+            k, own = (0 if self.value(node.parts[0], env) else 1), env
+            body = node.parts[1 + k]
+        else:
+            value = self.value(node.parts[0], env)
+            for k, (pattern, body) in enumerate(node.parts[1]):
+                own = dict(env)
+                if self.fits(pattern, value, own):
+                    break
+            else:
+                raise Trap("no arm")
+        if node.counts and self.loops == 0:
+            self.trail.append(k)
+        return self.value(body, own) if body else 0
+
+    def do_return(self, at, env, inner):
+        value = self.value(inner, env) if inner else 0
+        if self.loops:
+            self.trail.append("return at %d" % at)
+        raise Returned(value)
+
+    def do_block(self, at, env, statements, last):
+        own = dict(env)
+        for one in statements:
+            self.value(one, own)
+        return self.value(last, own) if last else 0
+
+    def do_let(self, at, env, pattern, value, other):
+        if not self.fits(pattern, self.value(value, env), env):
+            self.value(other, env)
+
+    def do_number(self, at, env, value):
+        return value
+
+    def do_unit(self, at, env):
+        return 0
+
+    def do_path(self, at, env, names):
+        if len(names) == 1 and names[0] in env:
+            return env[names[0]].value
+        if names[0] in BITS:
+            return {"MAX": 2 ** BITS[names[0]] - 1, "MIN": 0}[names[1]]
+        for crate in [self.crate] + list(self.crates):
+            if names[-1] in self.crates[crate].consts:
+                return self.value(self.crates[crate].consts[names[-1]], {})
+        if len(names) > 1:
+            return Variant(names[-1], [])
+        raise Unknown("no name " + names[-1])
+
+    def do_call(self, at, env, names, given):
+        return self.call(names, [self.value(g, env) for g in given])
+
+    def do_struct(self, at, env, name, given):
+        return Record(self, name, "", {n: self.value(v, env) for n, v in given})
+
+    def do_field(self, at, env, one, name):
+        return self.value(one, env).get(name)
+
+    def do_index(self, at, env, one, i):
+        return self.value(one, env).get(self.value(i, env))
+
+    def ends_of(self, env, size, low, high):
+        return self.value(low, env) if low else 0, self.value(high, env) if high else size
+
+    def do_part(self, at, env, one, low, high):
+        row = self.value(one, env)
+        return row.part(*self.ends_of(env, row.size, low, high))
+
+    def do_view(self, at, env, one):
+        row = self.value(one, env)
+        return row.part(0, row.size) if isinstance(row, Lent) else row
+
+    def do_lend(self, at, env, one):
+        if one.kind == "part":
+            row = self.do_lend(at, env, one.parts[0])
+            return row.lend(*self.ends_of(env, row.size, *one.parts[1:]))
+        if one.kind != "path":
+            raise Unknown("&mut of no name")
+        cell = env[one.parts[0][0]]
+        return cell.value if isinstance(cell.value, Lent) else Lent(cell, 0, cell.value.size)
+
+    def do_len(self, at, env, one):
+        return self.value(one, env).size
+
+    def do_array(self, at, env, given):
+        return Row(self, None, len(given), "", {i: self.value(g, env) for i, g in enumerate(given)})
+
+    def do_repeat(self, at, env, one, size):
+        value, n = self.value(one, env), self.value(size, env)
+        return Row(self, None, n, "", {i: value for i in range(n)})
+
+    def do_not(self, at, env, one):
+        value = self.value(one, env)
+        if not isinstance(value, bool):
+            raise Unknown("! of a number")
+        return not value
+
+    def do_cast(self, at, env, one, kind):
+        value = int(self.value(one, env))
+        if value >= 2 ** kind[1]:
+            raise Trap("cast")
+        return value
+
+    def do_binary(self, at, env, op, a, b):
+        x = self.value(a, env)
+        if op in ("&&", "||"):
+            return self.value(b, env) if x == (op == "&&") else x
+        return self.joined(op, x, self.value(b, env))
+
+    def joined(self, op, x, y):
+        if op in ("==", "!="):
+            return (told(x) == told(y)) == (op == "==")
+        if op in ("<", ">", "<=", ">="):
+            return {"<": x < y, ">": x > y, "<=": x <= y, ">=": x >= y}[op]
+        if op in ("/", "%") and y == 0 or op == "-" and x < y or op in ("<<", ">>") and y > 63:
+            raise Trap(op)
+        value = {"+": lambda: x + y, "-": lambda: x - y, "*": lambda: x * y, "/": lambda: x // y, "%": lambda: x % y, "|": lambda: x | y,
+                 "&": lambda: x & y, "^": lambda: x ^ y, "<<": lambda: x << y, ">>": lambda: x >> y}[op]()
+        if value >= 2 ** 64:
+            raise Trap(op)
+        return value
+
+    def fits(self, pattern, value, env):
+        kind, parts = pattern.kind, pattern.parts
+        if kind == "bind":
+            env[parts[0]] = Cell(value)
+        elif kind == "is":
+            return value == parts[0]
+        elif kind == "range":
+            return parts[0] <= value <= parts[1]
+        elif kind == "either":
+            return any(self.fits(p, value, env) for p in parts[0])
+        elif kind == "case":
+            return value.name == parts[0] and all(self.fits(p, v, env) for p, v in zip(parts[1], value.inner))
+        return True
+
+    def do_while(self, at, env, test, body):
+        self.loops += 1
+        while self.value(test, env):
+            try:
+                self.value(body, env)
+            except Left as left:
+                if left.args[0] == "break":
+                    break
+        self.loops -= 1
+        return 0
+
+    def do_break(self, at, env):
+        raise Left("break")
+
+    def do_continue(self, at, env):
+        raise Left("continue")
+
+    def do_assign(self, at, env, op, place, given):
+        value = self.value(given, env)
+        if op:
+            value = self.joined(op, self.value(place, env), value)
+        self.store(place, value, env)
+        return 0
+
+    def store(self, place, value, env):
+        if place.kind == "path":
+            env[place.parts[0][0]].value = value
+            return
+        inside = self.value(place.parts[0], env)
+        at = place.parts[1] if place.kind == "field" else self.value(place.parts[1], env)
+        if isinstance(inside, Lent):
+            inside.store(at, value)
+        else:
+            self.store(place.parts[0], inside.put(at, value), env)
+
+
+def load(root):
+    """Every crate of a repository; one whose code has a form that is unknown here is left out."""
+    crates = {}
+    for folder in sorted(glob.glob(root + "/crates/*")):
+        try:
+            crates[os.path.basename(folder)] = Crate(os.path.basename(folder), texts_of(folder).values())
+        except Unknown:
+            pass
+    return crates
+
+
+def changed(right, wrong):
+    """The functions of a crate whose text differs: (name, right, wrong)."""
+    found = []
+    for name in right.fns:
+        for a, b in zip(right.fns[name], wrong.fns.get(name, [])):
+            if a.text != b.text:
+                found.append((name, a, b))
+    return found
+
+
+def pool_of(crate, *fns):
+    """The numbers of functions and of those of the crate that they call, and their neighbours."""
+    called = {name for fn in fns for name in re.findall(r"\b(\w+)\(", fn.text)} & set(crate.fns)
+    texts = [fn.text for fn in fns] + [fn.text for name in called for fn in crate.fns[name]]
+    numbers = {int(n.replace("_", ""), 0) for t in texts for n in re.findall(r"\b(?:0x[0-9A-Fa-f_]+|\d[\d_]*?)(?=\b|u\d)", t)}
+    return sorted({n + d for n in numbers | {0, 1} for d in (-1, 0, 1) if 0 <= n + d < 2 ** 64})
+
+
+def differences(crates, edited, right, wrong, most, enough):
+    """Where the wrong function ends with another outcome than the right one, over drawings of `most` steps in all: stops as soon as `enough` says so of the places found."""
+    found, with_edit = set(), dict(crates, **{edited.name: edited})
+    pool = pool_of(edited, right, wrong)
+    seed = steps = 0
+    while steps < most and not enough(found):
+        seed += 1
+        one, other = Run(crates, edited.name, pool, seed), Run(with_edit, edited.name, pool, seed)
+        try:
+            expected, _ = one.start(right)
+            outcome, end = other.start(wrong)
+            if outcome != expected:
+                found.add(end)
+        except Trap:
+            pass
+        steps += one.steps + other.steps + 20
+    return found

@@ -1,7 +1,8 @@
 """Runs functions of Rattle on drawn arguments, to see whether an edit changes what a function does, and at which of its returns.
 
-Functions of the same crate are run; those of other crates are unknown functions: the same arguments give the same result, drawn by its type. Numbers are drawn from those that stand in the
-code, their neighbours, small ones and any. This is a test and no proof: it can miss a difference, and it can find one that the contracts of other crates exclude."""
+Functions of the same crate are run, and of other crates those on plain values (no rows, no loops). All others are unknown functions: the same arguments give the same result, drawn by its type.
+Numbers are drawn from those that stand in the code, their neighbours, small ones and any. This is a test and no proof: it can miss a difference, and it can find one that the contracts of other
+crates exclude."""
 import glob
 import hashlib
 import os
@@ -43,7 +44,7 @@ class Node:
 class Fn:
     def __init__(self, crate, name, params, result, body, text):
         self.crate, self.name, self.params, self.result, self.body, self.text = crate, name, params, result, body, text
-        self.asks = []
+        self.asks, self.module, self.plain = [], "", None
         self.ends = [trail for trail, _ in trails(body)] if body else []
 
     def part_at(self, end):
@@ -67,8 +68,8 @@ def trails(node):
     if kind == "match":
         node.counts = True
         return branches([body for _, body in parts[1]])
-    if kind == "while":
-        return [((at,), True) for at in returns_in(parts[1])] + [((), False)]
+    if kind in ("while", "for"):
+        return [((at,), True) for at in returns_in(parts[-1])] + [((), False)]
     return [((), False)]
 
 
@@ -97,7 +98,7 @@ def returns_in(node):
 class Parser:
     def __init__(self, text):
         text = NOT_CODE.sub("", text)
-        self.text, self.words, self.k = text, [], 0
+        self.text, self.words, self.k, self.uses = text, [], 0, {}
         at = 0
         while at < len(text):
             found = TOKEN.match(text, at)
@@ -178,9 +179,12 @@ class Parser:
                 continue
             self.public()
             word = self.take()
-            if word in ("mod", "use"):
-                while not self.took(";"):
-                    self.take()
+            if word == "use":
+                names = self.path()
+                self.uses[names[-1]] = names
+                self.skip_until(";")
+            elif word == "mod":
+                self.skip_until(";")
             elif word == "const":
                 name = self.take()
                 self.take(":")
@@ -418,6 +422,12 @@ class Parser:
             return Node("match", at, value, arms)
         if self.took("while"):
             return Node("while", at, self.expression(True), self.block())
+        if self.took("for"):
+            name = self.take()
+            self.take("in")
+            low = self.level(0, True)
+            closed = self.take() == "..="
+            return Node("for", at, name, low, self.level(0, True), closed, self.block())
         if self.took("loop"):
             return Node("while", at, Node("number", at, True), self.block())
         if kind != "name":
@@ -452,11 +462,14 @@ class Crate:
     """The code of a crate, from its files' texts."""
 
     def __init__(self, name, texts):
-        self.name, self.fns, self.types, self.consts = name, {}, {}, {}
-        for text in texts:
-            fns, types, consts = Parser(text).items(name)
+        self.name, self.fns, self.types, self.consts, self.uses = name, {}, {}, {}, {}
+        for file, text in sorted(texts.items()):
+            parser = Parser(text)
+            fns, types, consts = parser.items(name)
+            self.uses.update(parser.uses)
             asked = dict(re.findall(r"fn (\w+)\b[^{]*?requires \{ ([^}]*) \}", text))
             for fn in fns:
+                fn.module = os.path.basename(file)[:-3]
                 fn.asks = ASKED.findall(asked.get(fn.name, ""))
                 self.fns.setdefault(fn.name, []).append(fn)
             self.types.update(types)
@@ -465,7 +478,14 @@ class Crate:
             fn.text += "".join(" " + self.consts[name].text for name in self.consts if re.search(r"\b%s\b" % name, fn.text))
 
 
+    def named(self, name, module):
+        """The function of that name, of that module if there is one; or None."""
+        found = self.fns.get(name, [])
+        return next((fn for fn in found if fn.module == module), found[0] if found else None)
+
+
 def texts_of(folder):
+    """The texts of a crate's code, by file."""
     return {os.path.relpath(p, folder): open(p, encoding="utf-8").read() for p in sorted(glob.glob(folder + "/src/**/*.rt", recursive=True))}
 
 
@@ -576,7 +596,7 @@ class Run:
 
     def __init__(self, crates, crate, pool, seed):
         self.crates, self.crate, self.pool, self.seed = crates, crate, pool, seed
-        self.steps, self.loops, self.trail, self.echo = 0, 0, [], []
+        self.steps, self.loops, self.trail, self.echo, self.module = 0, 0, [], [], ""
 
     # what is unknown
 
@@ -585,14 +605,18 @@ class Run:
 
     def draw_number(self, bits, key):
         by = self.chance(key)
-        how, by = by % 8, by >> 8
-        if how == 5 and self.echo:
-            return self.echo[by % len(self.echo)] % 2 ** bits
-        if how < 4:
-            return self.pool[by % len(self.pool)] % 2 ** bits
-        if how < 6:
+        how, by = by % 16, by >> 8
+        if how < 3:
             return by % 40
-        return by % 2 ** bits if how == 6 else 2 ** bits - 1 - by % 5
+        if how < 5 and self.echo:
+            return self.echo[by % len(self.echo)] % 2 ** bits
+        if how == 5:
+            return (2 ** (by % bits) + (by >> 8) % 3 - 1) % 2 ** bits
+        if how == 6:
+            return by % 2 ** bits
+        if how == 7:
+            return 2 ** bits - 1 - by % 5
+        return self.pool[by % len(self.pool)] % 2 ** bits
 
     def draw(self, kind, key):
         if kind[0] == "int":
@@ -636,6 +660,7 @@ class Run:
         lent = [Cell(v) for v, (_, kind) in zip(given, fn.params) if kind[0] == "ref" and kind[1]]
         cells = iter(lent)
         given = [Lent(next(cells), 0, v.size) if kind[0] == "ref" and kind[1] else v for v, (_, kind) in zip(given, fn.params)]
+        self.module = fn.module
         answer = self.run(fn, given)
         return told(answer) + "".join(";" + told(c.value) for c in lent), tuple(self.trail)
 
@@ -648,10 +673,10 @@ class Run:
 
     def run_called(self, fn, given):
         self.steps += 10
-        kept = self.loops, self.trail
-        self.loops, self.trail = 0, []
+        kept = self.loops, self.trail, self.module, self.crate
+        self.loops, self.trail, self.module, self.crate = 0, [], fn.module, fn.crate
         answer = self.run(fn, given)
-        self.loops, self.trail = kept
+        self.loops, self.trail, self.module, self.crate = kept
         return answer
 
     def call(self, names, given):
@@ -666,21 +691,44 @@ class Run:
             return Variant(name, given)
         if name[0].isupper():
             return Record(self, name, "", {str(i): v for i, v in enumerate(given)})
-        own = self.crates[self.crate].fns.get(name)
+        own = self.crates[self.crate].named(name, names[-2] if len(names) > 1 else self.module)
         if own and (len(names) == 1 or names[0] not in self.crates):
-            return self.run_called(own[0], given)
-        return self.unknown(names, given)
+            return self.run_called(own, given)
+        other = self.elsewhere(names)
+        return self.run_called(other, given) if self.is_plain(other) else self.unknown(other, given)
 
-    def unknown(self, names, given):
-        """The answer of another crate's function, and what it leaves in rows that are lent to it."""
-        where = [names[0]] if names[0] in self.crates else []
-        for crate in where + list(self.crates):
-            if names[-1] in self.crates[crate].fns:
-                fn = self.crates[crate].fns[names[-1]][0]
-                break
-        else:
-            fn = Fn("", names[-1], [], ("unit",), None, "")
-        key = hashlib.blake2b((fn.crate + fn.name + "(%s)" % "|".join(map(told, given))).encode(), digest_size=12).hexdigest()
+    def elsewhere(self, names):
+        """Another crate's function; one of the kit's is taken to answer nothing."""
+        crate = self.crates[self.crate]
+        while crate and names:
+            if len(names) == 1 or names[0] not in self.crates:
+                names = crate.uses.get(names[-1])
+                continue
+            crate = self.crates[names[0]]
+            fn = crate.named(names[-1], names[-2] if len(names) > 2 else "lib")
+            if fn:
+                return fn
+            names = names[-1:]
+        return Fn("", "", [], ("unit",), None, "")
+
+    def is_plain(self, fn):
+        """Whether a function is on plain values, without loops, and calls only such."""
+        if fn.plain is None:
+            fn.plain = False
+            calls = [c.split("::") for c in re.findall(r"([\w:]+)\(", fn.text[fn.text.find("{"):])]
+            fn.plain = bool(fn.body) and not re.search(r"\[|\bwhile\b|\bfor\b", fn.text) and all(self.is_plain_type(kind) for _, kind in fn.params) and all(
+                self.is_plain(self.crates[fn.crate].named(c[-1], c[-2] if len(c) > 1 else fn.module) or self.elsewhere(c)) for c in calls if c[-1][0].islower() and c[-1] != "count_ones")
+        return fn.plain
+
+    def is_plain_type(self, kind):
+        if kind[0] != "name":
+            return kind[0] in ("int", "bool")
+        shape, parts = self.type_of(kind[1])
+        return all(self.is_plain_type(inner) for _, one in parts for inner in (one if shape == "enum" else [one]))
+
+    def unknown(self, fn, given):
+        """The answer of an unknown function, and what it leaves in rows that are lent to it."""
+        key = hashlib.blake2b((fn.crate + fn.module + fn.name + "(%s)" % "|".join(map(told, given))).encode(), digest_size=12).hexdigest()
         for k, v in enumerate(given):
             if isinstance(v, Lent):
                 v.cell.value = Row(self, v.cell.value.inner or ("int", 8), v.cell.value.size, "%s:%d+%d" % (key, k, v.first))
@@ -694,7 +742,7 @@ class Run:
             raise Trap("no end")
         if node.kind in ("if", "match"):
             return self.branch(node, env)
-        return getattr(self, "do_" + node.kind)(node.at, env, *node.parts)
+        return DOES[node.kind](self, node.at, env, *node.parts)
 
     def branch(self, node, env):
         """An `if` or `match`; the branch that is taken is noted outside of loops."""
@@ -845,6 +893,17 @@ class Run:
         self.loops -= 1
         return 0
 
+    def do_for(self, at, env, name, low, high, closed, body):
+        self.loops += 1
+        for i in range(self.value(low, env), self.value(high, env) + closed):
+            try:
+                self.value(body, dict(env, **{name: Cell(i)}))
+            except Left as left:
+                if left.args[0] == "break":
+                    break
+        self.loops -= 1
+        return 0
+
     def do_break(self, at, env):
         raise Left("break")
 
@@ -870,12 +929,15 @@ class Run:
             self.store(place.parts[0], inside.put(at, value), env)
 
 
+DOES = {name[3:]: does for name, does in vars(Run).items() if name.startswith("do_")}
+
+
 def load(root):
     """Every crate of a repository; one whose code has a form that is unknown here is left out."""
     crates = {}
     for folder in sorted(glob.glob(root + "/crates/*")):
         try:
-            crates[os.path.basename(folder)] = Crate(os.path.basename(folder), texts_of(folder).values())
+            crates[os.path.basename(folder)] = Crate(os.path.basename(folder), texts_of(folder))
         except Unknown:
             pass
     return crates
@@ -899,12 +961,12 @@ def pool_of(crate, *fns):
     return sorted({n + d for n in numbers | {0, 1} for d in (-1, 0, 1) if 0 <= n + d < 2 ** 64})
 
 
-def differences(crates, edited, right, wrong, most, enough):
-    """Where the wrong function ends with another outcome than the right one, over drawings of `most` steps in all: stops as soon as `enough` says so of the places found."""
+def differences(crates, edited, right, wrong, least, most, enough):
+    """Where the wrong function ends with another outcome than the right one, over drawings of `most` steps in all: after `least` it stops as soon as `enough` says so of the places found."""
     found, with_edit = set(), dict(crates, **{edited.name: edited})
     pool = pool_of(edited, right, wrong)
     seed = steps = 0
-    while steps < most and not enough(found):
+    while steps < most and not (steps > least and enough(found)):
         seed += 1
         one, other = Run(crates, edited.name, pool, seed), Run(with_edit, edited.name, pool, seed)
         try:
@@ -914,5 +976,7 @@ def differences(crates, edited, right, wrong, most, enough):
                 found.add(end)
         except Trap:
             pass
+        except (AttributeError, KeyError, TypeError, ValueError, RecursionError) as e:
+            raise Unknown("%s: %s" % (type(e).__name__, e))
         steps += one.steps + other.steps + 20
     return found

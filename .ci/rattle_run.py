@@ -125,6 +125,10 @@ def told(value):
     return str(int(value)) if isinstance(value, (int, bool)) else value.told()
 
 
+def short(text):
+    return hashlib.blake2b(text.encode(), digest_size=12).hexdigest()
+
+
 class Run:
     """One drawing of everything that is unknown."""
 
@@ -245,10 +249,11 @@ class Run:
 
     def unknown(self, fn, given):
         """The answer of an unknown function, and what it leaves in rows that are lent to it."""
-        key = hashlib.blake2b((fn.crate + fn.module + fn.name + "(%s)" % "|".join(map(told, given))).encode(), digest_size=12).hexdigest()
+        key = short(fn.crate + fn.module + fn.name + "(%s)" % "|".join(map(told, given)))
         for k, v in enumerate(given):
             if isinstance(v, Lent):
-                v.cell.value = Row(self, v.cell.value.inner or ("int", 8), v.cell.value.size, "%s:%d+%d" % (key, k, v.first))
+                row = v.cell.value
+                v.cell.value = Row(self, row.inner or ("int", 8), row.size, short("%s:%d+%d of %s" % (key, k, v.first, row.told())))
         return self.draw(fn.result, key)
 
     # statements and expressions

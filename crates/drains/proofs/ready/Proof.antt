@@ -9,7 +9,7 @@ without-requires : tie.Need-without-requires
 without-requires c κs = search needs
 
 returns : tie.Need-returns
-returns c = rw (c .without .ensures, c .before .held-back .ensures)
+returns c = simp (c .without .ensures, c .before .held-back .ensures)
 
 pub ready-spec : {M : Type 1} → statement M
 ready-spec = tie.close (tie.spec held-back-requires without-requires returns)

@@ -1,3 +1,5 @@
+use mathlib.Core.Path.{ap}
+use Rattle.pages.specs.declared.Interface.the-variants.{On}
 use borrow.Author.Needs.{needs}
 use Rattle.requests.proofs.with_request.Statement.{statement}
 use Rattle.requests.proofs.with_request.Tie as tie
@@ -6,7 +8,7 @@ join-requires : tie.Need-join-requires
 join-requires c κs = search needs
 
 returns : tie.Need-returns
-returns c = rw (c .join .ensures)
+returns c = ap (λ groups. record { interface = On; allocation = c .before .before .args .p .allocation; groups = groups }) (c .join .ensures)
 
 pub with-request-spec : {M : Type 1} → statement M
 with-request-spec = tie.close (tie.spec join-requires returns)

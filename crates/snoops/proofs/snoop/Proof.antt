@@ -15,7 +15,7 @@ with-requires : tie.Need-with-requires
 with-requires c κs = search needs
 
 returns : tie.Need-returns
-returns c = rw (c .with .ensures, c .before .before .snoop .ensures, c .before .before .before .cut-cache .ensures, c .before .before .before .before .before .before .snoop-range .ensures)
+returns c = simp (c .with .ensures, c .before .before .snoop .ensures, c .before .before .before .cut-cache .ensures, c .before .before .before .before .before .before .snoop-range .ensures)
 
 pub snoop-spec : {M : Type 1} → statement M
 snoop-spec =

@@ -11,7 +11,7 @@ region-requires c κs = search needs
 
 returns : tie.Need-returns
 unfolding roundedOf
-returns c = rw (← c .before .larger .ensures) (c .region .ensures)
+returns c = rw (c .before .larger .ensures) at (c .region .ensures)
 
 pub rounded-spec : {M : Type 1} → statement M
 rounded-spec = tie.close (tie.spec larger-requires region-requires returns)

@@ -23,7 +23,7 @@ answered-requires-2 c κs = search needs
 
 returns-2 : tie.Need-returns-2
 unfolding enabling
-returns-2 c = rw (c .answered2 .ensures, c .before .stale-all .ensures, c .before .before .empty .ensures) (end-skip _ _ _ _ _ _ (c .before .before .before .before .if1 .left) refl)
+returns-2 c = simp (c .answered2 .ensures, c .before .stale-all .ensures, c .before .before .empty .ensures) (end-skip _ _ _ _ _ _ (c .before .before .before .before .if1 .left) refl)
 
 pub enable-spec : {M : Type 1} → statement M
 enable-spec =

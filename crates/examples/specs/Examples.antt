@@ -187,7 +187,7 @@ examples =
     ∷ bytesOf pageRequest [] is pageBytes
     ∷ writing pageRequest 0 16 is gives 16
     ∷ sends (after (started 0) ((PagesOn 1, []) ∷ [])) (Requests page) [] is (gives done, 16, pageBytes)
-    -- 8: the last unit below 2 ^ 64 is asked for, and two from there on are not
+    -- 8: at the top of the address space one unit can be asked for, and two cannot
     ∷ sends (started 0) (ask 0xFFFF_FFFF_FFFF_F000 1) [] is (gives (tag 0), 16, four 0x2000_0402 ++ four 0x0100_00FF ++ four 0xFFFF_FFFF ++ four 0xFFFF_F000)
     ∷ sends (started 0) (ask 0xFFFF_FFFF_FFFF_F000 2) [] is (number 12, 0, buffer)
     ∷ []

@@ -21,6 +21,7 @@ use Rattle.state.specs.State.{withPlace, headOf}
 use Rattle.state.specs.Answers.{Deed, done, tag, sending}
 use Rattle.accesses.specs.declared.Way.{Way}
 use Rattle.accesses.specs.declared.Way.the-variants.{Read as ToRead, Write as ToWrite}
+use Rattle.accesses.specs.declared.Accessing.{Accessing}
 use Rattle.accesses.specs.declared.Target.{Target}
 use Rattle.accesses.specs.declared.Goes.{Goes}
 use Rattle.accesses.specs.declared.Goes.the-variants.{To, Refused}
@@ -57,12 +58,12 @@ enteredBy way stu address Miss = number 13
 enteredBy way stu address (Hit e) = demand 14 (isAllowed way e) (gives (targetOf stu address e))
 
 -- 6, 12, 13, 14; load is the bytes of payload handed in
-unfoldable pub lookingUp : Function → Way → ℕ → ℕ → ℕ → Said Target
-lookingUp f way address words load =
+unfoldable pub lookingUp : Function → Accessing → ℕ → Said Target
+lookingUp f a load =
     demand 6 (f .enabled)
-    (demand 12 (isInPage address words)
-    (demand 12 (eqb load (loadFor way words))
-    (enteredBy way (f .stu) address (found (f .cache .slots) (unitAt (f .stu) address)))))
+    (demand 12 (isInPage (a .address) (a .words))
+    (demand 12 (eqb load (loadFor (a .way) (a .words)))
+    (enteredBy (a .way) (f .stu) (a .address) (found (f .cache .slots) (unitAt (f .stu) (a .address))))))
 
 abbrev pub memoryOf : ℕ → Access → ℕ → Target → Packet
 memoryOf id access words t =
@@ -72,21 +73,21 @@ memoryOf id access words t =
     }
 
 -- a read opens a tag, by the address asked
-abbrev pub readFrom : Function → Tag → Target → ℕ → ℕ → List ℕ → List ℕ → Said Deed
-readFrom f t at address words load out =
-    sending (withPlace f t (fetching address (4 * words) (at .translated))) (tag (t .0)) (memoryOf (f .id) (Read t) words at) load out
+abbrev pub readFrom : Function → Tag → Target → Accessing → List ℕ → List ℕ → Said Deed
+readFrom f t at a load out =
+    sending (withPlace f t (fetching (a .address) (4 * a .words) (at .translated))) (tag (t .0)) (memoryOf (f .id) (Read t) (a .words) at) load out
 
 abbrev pub writeTo : Function → Target → ℕ → List ℕ → List ℕ → Said Deed
 writeTo f at words load out = sending f done (memoryOf (f .id) Write words at) load out
 
-abbrev pub going : Function → Way → Target → ℕ → ℕ → List ℕ → List ℕ → Said Deed
-going f ToRead at address words load out = demand 11 (isTag (freeTag (f .places))) (readFrom f (freeTag (f .places)) at address words load out)
-going f ToWrite at address words load out = writeTo f at words load out
+abbrev pub going : Function → Way → Target → Accessing → List ℕ → List ℕ → Said Deed
+going f ToRead at a load out = demand 11 (isTag (freeTag (f .places))) (readFrom f (freeTag (f .places)) at a load out)
+going f ToWrite at a load out = writeTo f at (a .words) load out
 
-abbrev pub goingIf : Function → Way → ℕ → ℕ → List ℕ → List ℕ → Said Target → Said Deed
-goingIf f way address words load out (gives at) = going f way at address words load out
-goingIf f way address words load out (number n) = number n
+abbrev pub goingIf : Function → Accessing → List ℕ → List ℕ → Said Target → Said Deed
+goingIf f a load out (gives at) = going f (a .way) at a load out
+goingIf f a load out (number n) = number n
 
 -- 6, 12, 13, 14, 11 for reads, 17
-unfoldable pub accessing : Function → Way → ℕ → ℕ → List ℕ → List ℕ → Said Deed
-accessing f way address words load out = goingIf f way address words load out (lookingUp f way address words (length load))
+unfoldable pub accessing : Function → Accessing → List ℕ → List ℕ → Said Deed
+accessing f a load out = goingIf f a load out (lookingUp f a (length load))

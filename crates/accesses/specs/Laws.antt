@@ -15,6 +15,7 @@ use Rattle.atc.specs.declared.Found.the-variants.{Hit, Miss}
 use Rattle.atc.specs.Cache.{found}
 use Rattle.state.specs.declared.Function.{Function}
 use Rattle.accesses.specs.declared.Way.{Way}
+use Rattle.accesses.specs.declared.Accessing.{Accessing}
 use Rattle.accesses.specs.declared.Target.{Target}
 use Rattle.accesses.specs.Access.{isInPage, loadFor, unitAt, isAllowed, targetOf, enteredBy, lookingUp}
 
@@ -32,18 +33,18 @@ entered-dword : (way : Way) (stu address : ℕ) (entry : Found) (at : Target) �
 entered-dword way stu address Miss at h e = let z : _≡_ {A = ℕ} 0 1 = cc in absurd (omega arith)
 entered-dword way stu address (Hit x) at h e = rw (same-gift (demanded (isAllowed way x) 14 (gives (targetOf stu address x)) e .1)) at (target-dword stu address x h)
 
-pub reached : (f : Function) (way : Way) (address words load : ℕ) (at : Target) → lookingUp f way address words load ≡ gives at → Reached way words load at
+pub reached : (f : Function) (a : Accessing) (load : ℕ) (at : Target) → lookingUp f a load ≡ gives at → Reached (a .way) (a .words) load at
 unfolding lookingUp
-reached f way address words load at e =
+reached f a load at e =
     let on = demanded (f .enabled) 6 _ e in
-    let page = demanded (isInPage address words) 12 _ (on .1) in
-    let load-is = demanded (eqb load (loadFor way words)) 12 _ (page .1) in
-    let some = and-both (leb 1 words) _ (page .0) in
-    let few = and-both (leb words 32) _ (some .1) in
-    let dword = and-both (eqb (address % 4) 0) _ (few .1) in
+    let page = demanded (isInPage (a .address) (a .words)) 12 _ (on .1) in
+    let load-is = demanded (eqb load (loadFor (a .way) (a .words))) 12 _ (page .1) in
+    let some = and-both (leb 1 (a .words)) _ (page .0) in
+    let few = and-both (leb (a .words) 32) _ (some .1) in
+    let dword = and-both (eqb (a .address % 4) 0) _ (few .1) in
     record {
-      some = leb-true 1 words (some .0);
-      few = leb-true words 32 (few .0);
-      fills = eqb-true load (loadFor way words) (load-is .0);
-      dword = entered-dword way (f .stu) address (found (f .cache .slots) (unitAt (f .stu) address)) at (eqb-true (address % 4) 0 (dword .0)) (load-is .1);
+      some = leb-true 1 (a .words) (some .0);
+      few = leb-true (a .words) 32 (few .0);
+      fills = eqb-true load (loadFor (a .way) (a .words)) (load-is .0);
+      dword = entered-dword (a .way) (f .stu) (a .address) (found (f .cache .slots) (unitAt (f .stu) (a .address))) at (eqb-true (a .address % 4) 0 (dword .0)) (load-is .1);
     }

@@ -22,6 +22,13 @@ pub enum Way {
     Write,
 }
 
+// An access of DWORDs from an address on.
+pub struct Accessing {
+    pub way: Way,
+    pub address: u64,
+    pub words: u16,
+}
+
 // Where an access goes: the address that is sent, and whether it is a translated one.
 pub struct Target {
     pub address: u64,
@@ -101,16 +108,17 @@ fn enter(way: Way, stu: u8, address: u64, entry: Found) -> Goes
 }
 
 // Where an access with `load` bytes of payload would go. Nothing is changed.
-pub fn look_up(f: Function, way: Way, address: u64, words: u16, load: usize) -> Goes
-    ensures { λ r. ⌜ paperGoes r ≡ lookingUp f way address words load ⌝ }
+pub fn look_up(f: Function, a: Accessing, load: usize) -> Goes
+    ensures { λ r. ⌜ paperGoes r ≡ lookingUp f a load ⌝ }
 {
+    let way = a.way;
     if f.enabled {
-        if is_in_page(address, words) {
-            if load == load_for(way, words) {
+        if is_in_page(a.address, a.words) {
+            if load == load_for(way, a.words) {
                 let slots = f.cache.slots;
-                let unit = span::region(address, span::unit_exponent(f.stu)).first;
+                let unit = span::region(a.address, span::unit_exponent(f.stu)).first;
                 let entry = atc::find(slots, unit);
-                enter(way, f.stu, address, entry)
+                enter(way, f.stu, a.address, entry)
             } else {
                 Goes::Refused(Refusal::Argument)
             }
@@ -141,19 +149,18 @@ fn read_from(
     f: Function,
     tag: Tag,
     at: Target,
-    address: u64,
-    words: u16,
+    a: Accessing,
     payload: &[u8],
     out: &mut [u8],
 ) -> Effect
-    requires { ⌜ words ≤ 32 ⌝ }
-    ensures { λ r. ⌜ told r (now (out .exit)) ≡ ended f (now (out .entry)) (readFrom f tag at address words (now (payload .entry)) (now (out .entry))) ⌝ }
+    requires { ⌜ a .words ≤ 32 ⌝ }
+    ensures { λ r. ⌜ told r (now (out .exit)) ≡ ended f (now (out .entry)) (readFrom f tag at a (now (payload .entry)) (now (out .entry))) ⌝ }
 {
     let access = Access::Read(tag);
-    let p = memory(f.id, access, words, at);
+    let p = memory(f.id, access, a.words, at);
     match tlp::write_packet(p, payload, out) {
         Writing::Written(n) => {
-            let o = tags::reading(address, 4 * words, at.translated);
+            let o = tags::reading(a.address, 4 * a.words, at.translated);
             let answer = Answer::Opened(tag);
             Effect {
                 state: state::with_place(f, tag, o),
@@ -183,57 +190,36 @@ fn write_to(f: Function, at: Target, words: u16, payload: &[u8], out: &mut [u8])
     }
 }
 
-fn read_on_a_tag(
-    f: Function,
-    at: Target,
-    address: u64,
-    words: u16,
-    payload: &[u8],
-    out: &mut [u8],
-) -> Effect
-    requires { ⌜ words ≤ 32 ⌝ }
-    ensures { λ r. ⌜ told r (now (out .exit)) ≡ ended f (now (out .entry)) (going f Way.Read at address words (now (payload .entry)) (now (out .entry))) ⌝ }
+fn read_on_a_tag(f: Function, at: Target, a: Accessing, payload: &[u8], out: &mut [u8]) -> Effect
+    requires { ⌜ a .words ≤ 32 ⌝ }
+    ensures { λ r. ⌜ told r (now (out .exit)) ≡ ended f (now (out .entry)) (going f Way.Read at a (now (payload .entry)) (now (out .entry))) ⌝ }
 {
     let places = f.places;
     let tag = tags::lowest_free(places);
     if tags::is_tag(tag) {
-        read_from(f, tag, at, address, words, payload, out)
+        read_from(f, tag, at, a, payload, out)
     } else {
         state::refused(f, Refusal::NoTag)
     }
 }
 
-fn go(
-    f: Function,
-    way: Way,
-    at: Target,
-    address: u64,
-    words: u16,
-    payload: &[u8],
-    out: &mut [u8],
-) -> Effect
-    requires { ⌜ words ≤ 32 ⌝ }
-    ensures { λ r. ⌜ told r (now (out .exit)) ≡ ended f (now (out .entry)) (going f way at address words (now (payload .entry)) (now (out .entry))) ⌝ }
+fn go(f: Function, at: Target, a: Accessing, payload: &[u8], out: &mut [u8]) -> Effect
+    requires { ⌜ a .words ≤ 32 ⌝ }
+    ensures { λ r. ⌜ told r (now (out .exit)) ≡ ended f (now (out .entry)) (going f (a .way) at a (now (payload .entry)) (now (out .entry))) ⌝ }
 {
+    let way = a.way;
     match way {
-        Way::Read => read_on_a_tag(f, at, address, words, payload, out),
-        Way::Write => write_to(f, at, words, payload, out),
+        Way::Read => read_on_a_tag(f, at, a, payload, out),
+        Way::Write => write_to(f, at, a.words, payload, out),
     }
 }
 
-// A read or write of DWORDs.
-pub fn access(
-    f: Function,
-    way: Way,
-    address: u64,
-    words: u16,
-    payload: &[u8],
-    out: &mut [u8],
-) -> Effect
-    ensures { λ r. ⌜ told r (now (out .exit)) ≡ ended f (now (out .entry)) (accessing f way address words (now (payload .entry)) (now (out .entry))) ⌝ }
+// A read or a write.
+pub fn access(f: Function, a: Accessing, payload: &[u8], out: &mut [u8]) -> Effect
+    ensures { λ r. ⌜ told r (now (out .exit)) ≡ ended f (now (out .entry)) (accessing f a (now (payload .entry)) (now (out .entry))) ⌝ }
 {
-    match look_up(f, way, address, words, payload.len()) {
-        Goes::To(at) => go(f, way, at, address, words, payload, out),
+    match look_up(f, a, payload.len()) {
+        Goes::To(at) => go(f, at, a, payload, out),
         Goes::Refused(r) => state::refused(f, r),
     }
 }

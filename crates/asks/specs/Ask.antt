@@ -19,6 +19,7 @@ use Rattle.replies.specs.Fits.{boundary}
 use Rattle.state.specs.declared.Function.{Function}
 use Rattle.state.specs.State.{headOf, withPlace}
 use Rattle.state.specs.Answers.{Deed, tag, sending}
+use Rattle.asks.specs.declared.Asking.{Asking}
 
 -- how many units may be asked for
 abbrev pub isFew : Rcb → ℕ → Bool
@@ -28,35 +29,34 @@ isFew rcb units = leb 1 units && leb units (boundary rcb / 8)
 unfoldable pub isBelowTop : ℕ → ℕ → ℕ → Bool
 isBelowTop stu address units = leb (regionOf address (unitExponent stu) .first + units * unitBytes stu) (2 ^ 64)
 
-unfoldable pub isAskable : Rcb → ℕ → ℕ → ℕ → Bool
-isAskable rcb stu address units = isFew rcb units && isBelowTop stu address units
+unfoldable pub isAskable : Rcb → ℕ → Asking → Bool
+isAskable rcb stu a = isFew rcb (a .units) && isBelowTop stu (a .address) (a .units)
 
 -- a request of Length 2N, for the address without its bits 11:0
-abbrev pub requestOf : ℕ → Tag → ℕ → ℕ → Bool → Packet
-requestOf id t address units nowrite =
+abbrev pub requestOf : ℕ → Tag → Asking → Packet
+requestOf id t a =
     record {
       head = headOf id;
-      body = Tr (record { tag = t; words = 2 * units; address = address / 4096 * 4096; nowrite = nowrite });
+      body = Tr (record { tag = t; words = 2 * a .units; address = a .address / 4096 * 4096; nowrite = a .nowrite });
     }
 
-abbrev pub askFrom : Function → Tag → ℕ → ℕ → Bool → List ℕ → Said Deed
-askFrom f t address units nowrite out =
-    sending (withPlace f t (asked address (units - 1))) (tag (t .0)) (requestOf (f .id) t address units nowrite) [] out
+abbrev pub askFrom : Function → Tag → Asking → List ℕ → Said Deed
+askFrom f t a out = sending (withPlace f t (asked (a .address) (a .units - 1))) (tag (t .0)) (requestOf (f .id) t a) [] out
 
 -- 6, 12, 11, 17
-unfoldable pub asking : Function → ℕ → ℕ → Bool → List ℕ → Said Deed
-asking f address units nowrite out =
+unfoldable pub asking : Function → Asking → List ℕ → Said Deed
+asking f a out =
     demand 6 (f .enabled)
-    (demand 12 (isAskable (f .rcb) (f .stu) address units)
+    (demand 12 (isAskable (f .rcb) (f .stu) a)
     (demand 11 (isTag (freeTag (f .places)))
-    (askFrom f (freeTag (f .places)) address units nowrite out)))
+    (askFrom f (freeTag (f .places)) a out)))
 
 -- what may be asked for is 16 units at most
-pub few-units : (rcb : Rcb) (stu address units : ℕ) → isAskable rcb stu address units ≡ true → (1 ≤ units) × (units ≤ 16)
+pub few-units : (rcb : Rcb) (stu : ℕ) (a : Asking) → isAskable rcb stu a ≡ true → (1 ≤ a .units) × (a .units ≤ 16)
 unfolding isAskable
-few-units rcb stu address units e =
-    let few = and-both (leb 1 units) (leb units (boundary rcb / 8)) (and-both (isFew rcb units) (isBelowTop stu address units) e .0) in
-    (leb-true 1 units (few .0), le-trans (leb-true units (boundary rcb / 8) (few .1)) (most rcb))
+few-units rcb stu a e =
+    let few = and-both (leb 1 (a .units)) (leb (a .units) (boundary rcb / 8)) (and-both (isFew rcb (a .units)) (isBelowTop stu (a .address) (a .units)) e .0) in
+    (leb-true 1 (a .units) (few .0), le-trans (leb-true (a .units) (boundary rcb / 8) (few .1)) (most rcb))
   where
     most : (rcb : Rcb) → boundary rcb / 8 ≤ 16
     most B64 = lit≤ tt

@@ -14,6 +14,13 @@ ghost use Prim.Native.Nat.{_-_, _≤_};
 ghost use Rattle.state.specs.Answers.{told, ended};
 ghost use Rattle.asks.specs.Ask.{requestOf, isFew, isBelowTop, isAskable, askFrom, asking};
 
+// What is asked for: so many units from the one that holds an address, and whether no write is meant.
+pub struct Asking {
+    pub address: u64,
+    pub units: u16,
+    pub nowrite: bool,
+}
+
 // How many units may be asked for.
 fn is_few(rcb: Rcb, units: u16) -> bool
     ensures { λ r. ⌜ r ≡ isFew rcb units ⌝ }
@@ -35,24 +42,25 @@ fn is_below_top(stu: u8, address: u64, units: u16) -> bool
     bytes - 1 <= 0xFFFF_FFFF_FFFF_FFFF - first
 }
 
-fn is_askable(rcb: Rcb, stu: u8, address: u64, units: u16) -> bool
-    ensures { λ r. ⌜ r ≡ isAskable rcb stu address units ⌝ }
+fn is_askable(rcb: Rcb, stu: u8, a: Asking) -> bool
+    ensures { λ r. ⌜ r ≡ isAskable rcb stu a ⌝ }
 {
-    if is_few(rcb, units) {
-        is_below_top(stu, address, units)
+    if is_few(rcb, a.units) {
+        is_below_top(stu, a.address, a.units)
     } else {
         false
     }
 }
 
-fn request(id: u16, tag: Tag, address: u64, units: u8, nowrite: bool) -> Packet
-    ensures { λ r. ⌜ r ≡ requestOf id tag address units nowrite ⌝ }
+fn request(id: u16, tag: Tag, a: Asking) -> Packet
+    requires { ⌜ a .units ≤ 16 ⌝ }
+    ensures { λ r. ⌜ r ≡ requestOf id tag a ⌝ }
 {
     let body = Body::Tr(TranslationRequest {
         tag,
-        words: 2 * units as u16,
-        address: address / 4096 * 4096,
-        nowrite,
+        words: 2 * a.units,
+        address: a.address / 4096 * 4096,
+        nowrite: a.nowrite,
     });
     Packet {
         head: state::head(id),
@@ -60,20 +68,22 @@ fn request(id: u16, tag: Tag, address: u64, units: u8, nowrite: bool) -> Packet
     }
 }
 
-fn further(units: u8) -> u8
+fn further(units: u16) -> u8
+    requires { ⌜ units ≤ 16 ⌝ }
     ensures { λ r. ⌜ r ≡ units - 1 ⌝ }
 {
-    if units == 0 { 0 } else { units - 1 }
+    if units == 0 { 0 } else { (units - 1) as u8 }
 }
 
-fn ask_with(f: Function, tag: Tag, address: u64, units: u8, nowrite: bool, out: &mut [u8]) -> Effect
-    ensures { λ r. ⌜ told r (now (out .exit)) ≡ ended f (now (out .entry)) (askFrom f tag address units nowrite (now (out .entry))) ⌝ }
+fn ask_with(f: Function, tag: Tag, a: Asking, out: &mut [u8]) -> Effect
+    requires { ⌜ a .units ≤ 16 ⌝ }
+    ensures { λ r. ⌜ told r (now (out .exit)) ≡ ended f (now (out .entry)) (askFrom f tag a (now (out .entry))) ⌝ }
 {
     let none: [u8; 0] = [0; 0];
-    let p = request(f.id, tag, address, units, nowrite);
+    let p = request(f.id, tag, a);
     match tlp::write_packet(p, &none, out) {
         Writing::Written(n) => {
-            let o = tags::asking(address, further(units));
+            let o = tags::asking(a.address, further(a.units));
             let answer = Answer::Opened(tag);
             Effect {
                 state: state::with_place(f, tag, o),
@@ -85,20 +95,20 @@ fn ask_with(f: Function, tag: Tag, address: u64, units: u8, nowrite: bool, out: 
     }
 }
 
-// A Translation Request for N units from the one that holds an address.
-pub fn ask(f: Function, address: u64, units: u16, nowrite: bool, out: &mut [u8]) -> Effect
-    ensures { λ r. ⌜ told r (now (out .exit)) ≡ ended f (now (out .entry)) (asking f address units nowrite (now (out .entry))) ⌝ }
+// A Translation Request.
+pub fn ask(f: Function, a: Asking, out: &mut [u8]) -> Effect
+    ensures { λ r. ⌜ told r (now (out .exit)) ≡ ended f (now (out .entry)) (asking f a (now (out .entry))) ⌝ }
 {
     let rcb = f.rcb;
     let places = f.places;
-    let askable = is_askable(rcb, f.stu, address, units);
+    let askable = is_askable(rcb, f.stu, a);
     let tag = tags::lowest_free(places);
     let is_left = tags::is_tag(tag);
     let enabled = f.enabled;
     if enabled {
         if askable {
             if is_left {
-                ask_with(f, tag, address, units as u8, nowrite, out)
+                ask_with(f, tag, a, out)
             } else {
                 state::refused(f, Refusal::NoTag)
             }

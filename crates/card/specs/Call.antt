@@ -15,11 +15,11 @@ use Rattle.card.specs.declared.Command.the-variants.{Reset, Enable, Disa
 
 -- what a call does: bytes is the packet received or the payload handed in, out the lent buffer
 unfoldable pub calling : Function → Command → List ℕ → List ℕ → Said Deed
-calling f (Reset a) bytes out = resetting (a .id) (a .stu) (a .rcb)
+calling f (Reset a) bytes out = resetting a
 calling f Enable bytes out = enabling f
 calling f Disable bytes out = disabling f
-calling f (Ask a) bytes out = asking f (a .address) (a .units) (a .nowrite) out
-calling f (Access a) bytes out = accessing f (a .way) (a .address) (a .words) bytes out
+calling f (Ask a) bytes out = asking f a out
+calling f (Access a) bytes out = accessing f a bytes out
 calling f Receive bytes out = received f bytes
 calling f Drain bytes out = draining f out
 calling f (PagesOn allocation) bytes out = switchingOn f allocation (f .pages .interface)

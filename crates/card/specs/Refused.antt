@@ -33,6 +33,9 @@ use Rattle.pages.specs.Pages.{isIndex}
 use Rattle.replies.specs.declared.Part.{Part}
 use Rattle.replies.specs.declared.Part.the-variants.{Misfit, Off as OffBoundary, First, Last}
 use Rattle.replies.specs.Fits.{judged}
+use Rattle.state.specs.declared.Resetting.{Resetting}
+use Rattle.asks.specs.declared.Asking.{Asking}
+use Rattle.accesses.specs.declared.Accessing.{Accessing}
 use Rattle.state.specs.declared.Function.{Function}
 use Rattle.state.specs.State.{headOf}
 use Rattle.state.specs.Answers.{Deed, ended}
@@ -67,9 +70,9 @@ refused-keeps f c bytes out n = go (calling f c bytes out)
 
 -- ---- the calls that neither send nor receive
 
-resetting-numbers : (id stu rcb : ℕ) → Among (12 ∷ []) (resetting id stu rcb)
+resetting-numbers : (a : Resetting) → Among (12 ∷ []) (resetting a)
 unfolding resetting
-resetting-numbers id stu rcb = search among
+resetting-numbers a = search among
 
 enabling-numbers : (f : Function) → Among [] (enabling f)
 unfolding enabling
@@ -93,37 +96,37 @@ switchingOff-numbers f Stopped = search among
 
 -- ---- the calls that send: what they write is refused only for want of room
 
-asking-numbers : (f : Function) (address units : ℕ) (nowrite : Bool) (out : List ℕ) → Among (6 ∷ 12 ∷ 11 ∷ 17 ∷ []) (asking f address units nowrite out)
+asking-numbers : (f : Function) (a : Asking) (out : List ℕ) → Among (6 ∷ 12 ∷ 11 ∷ 17 ∷ []) (asking f a out)
 unfolding asking
-asking-numbers f address units nowrite out = search (among, sending-numbers, fit)
+asking-numbers f a out = search (among, sending-numbers, fit)
   where
-    fit : (tag : Tag) → isAskable (f .rcb) (f .stu) address units ≡ true → Sendable (requestOf (f .id) tag address units nowrite) 0
+    fit : (tag : Tag) → isAskable (f .rcb) (f .stu) a ≡ true → Sendable (requestOf (f .id) tag a) 0
     fit tag e =
-        let few = few-units (f .rcb) (f .stu) address units e in
+        let few = few-units (f .rcb) (f .stu) a e in
         tr-sendable (headOf (f .id)) refl _ (omega arith) (omega (arith, few .0)) (omega (arith, few .1)) (omega arith)
 
 entering-numbers : (way : Way) (stu address : ℕ) (entry : Found) → Among (6 ∷ 12 ∷ 13 ∷ 14 ∷ []) (enteredBy way stu address entry)
 entering-numbers way stu address Miss = search among
 entering-numbers way stu address (Hit e) = search among
 
-lookingUp-numbers : (f : Function) (way : Way) (address words load : ℕ) → Among (6 ∷ 12 ∷ 13 ∷ 14 ∷ []) (lookingUp f way address words load)
+lookingUp-numbers : (f : Function) (a : Accessing) (load : ℕ) → Among (6 ∷ 12 ∷ 13 ∷ 14 ∷ []) (lookingUp f a load)
 unfolding lookingUp
-lookingUp-numbers f way address words load = search (among, entering-numbers)
+lookingUp-numbers f a load = search (among, entering-numbers)
 
-going-numbers : (f : Function) (way : Way) (at : Target) (address words : ℕ) (load out : List ℕ) → Reached way words (length load) at → Among (11 ∷ 17 ∷ []) (going f way at address words load out)
-going-numbers f ToRead at address words load out h = search (among, sending-numbers, fit)
+going-numbers : (f : Function) (way : Way) (at : Target) (a : Accessing) (load out : List ℕ) → Reached way (a .words) (length load) at → Among (11 ∷ 17 ∷ []) (going f way at a load out)
+going-numbers f ToRead at a load out h = search (among, sending-numbers, fit)
   where
-    fit : Sendable (memoryOf (f .id) (ReadOf (freeTag (f .places))) words at) (length load)
-    fit = rw (h .fills) (read-sendable (headOf (f .id)) refl words (at .address) (at .translated) (h .some) (h .few) (h .dword) (freeTag (f .places)))
-going-numbers f ToWrite at address words load out h =
-    sending-numbers _ _ _ _ load out refl (write-sendable (headOf (f .id)) refl words (at .address) (at .translated) (h .some) (h .few) (h .dword) (length load) (h .fills))
+    fit : Sendable (memoryOf (f .id) (ReadOf (freeTag (f .places))) (a .words) at) (length load)
+    fit = rw (h .fills) (read-sendable (headOf (f .id)) refl (a .words) (at .address) (at .translated) (h .some) (h .few) (h .dword) (freeTag (f .places)))
+going-numbers f ToWrite at a load out h =
+    sending-numbers _ _ _ _ load out refl (write-sendable (headOf (f .id)) refl (a .words) (at .address) (at .translated) (h .some) (h .few) (h .dword) (length load) (h .fills))
 
-accessing-numbers : (f : Function) (way : Way) (address words : ℕ) (load out : List ℕ) → Among (6 ∷ 12 ∷ 13 ∷ 14 ∷ 11 ∷ 17 ∷ []) (accessing f way address words load out)
+accessing-numbers : (f : Function) (a : Accessing) (load out : List ℕ) → Among (6 ∷ 12 ∷ 13 ∷ 14 ∷ 11 ∷ 17 ∷ []) (accessing f a load out)
 unfolding accessing
-accessing-numbers f way address words load out = go (lookingUp f way address words (length load)) refl (lookingUp-numbers f way address words (length load))
+accessing-numbers f a load out = go (lookingUp f a (length load)) refl (lookingUp-numbers f a (length load))
   where
-    go : (s : Said Target) → lookingUp f way address words (length load) ≡ s → Among (6 ∷ 12 ∷ 13 ∷ 14 ∷ []) s → Among (6 ∷ 12 ∷ 13 ∷ 14 ∷ 11 ∷ 17 ∷ []) (goingIf f way address words load out s)
-    go (gives at) e h = widened (11 ∷ 17 ∷ []) _ _ refl (going-numbers f way at address words load out (reached f way address words (length load) at e))
+    go : (s : Said Target) → lookingUp f a (length load) ≡ s → Among (6 ∷ 12 ∷ 13 ∷ 14 ∷ []) s → Among (6 ∷ 12 ∷ 13 ∷ 14 ∷ 11 ∷ 17 ∷ []) (goingIf f a load out s)
+    go (gives at) e h = widened (11 ∷ 17 ∷ []) _ _ refl (going-numbers f (a .way) at a load out (reached f a (length load) at e))
     go (number n) e h = widened (6 ∷ 12 ∷ 13 ∷ 14 ∷ []) _ (number n) refl (among-number _ n (h .one n refl))
 
 draining-numbers : (f : Function) (out : List ℕ) → Among (17 ∷ []) (draining f out)
@@ -213,11 +216,11 @@ numbersOf (PageRequests q) = 15 ∷ 12 ∷ 16 ∷ 17 ∷ []
 
 calling-numbers : (f : Function) (c : Command) (bytes out : List ℕ) → Among (numbersOf c) (calling f c bytes out)
 unfolding calling
-calling-numbers f (Reset a) bytes out = resetting-numbers (a .id) (a .stu) (a .rcb)
+calling-numbers f (Reset a) bytes out = resetting-numbers a
 calling-numbers f Enable bytes out = enabling-numbers f
 calling-numbers f Disable bytes out = disabling-numbers f
-calling-numbers f (Asks a) bytes out = asking-numbers f (a .address) (a .units) (a .nowrite) out
-calling-numbers f (Access a) bytes out = accessing-numbers f (a .way) (a .address) (a .words) bytes out
+calling-numbers f (Asks a) bytes out = asking-numbers f a out
+calling-numbers f (Access a) bytes out = accessing-numbers f a bytes out
 calling-numbers f Receive bytes out = received-numbers f bytes
 calling-numbers f Drain bytes out = draining-numbers f out
 calling-numbers f (PagesOn allocation) bytes out = switchingOn-numbers f allocation (f .pages .interface)

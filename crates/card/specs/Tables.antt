@@ -28,6 +28,9 @@ use Rattle.pages.specs.declared.Interface.the-variants.{Off, On, Stopped}
 use Rattle.pages.specs.declared.Pages.{Pages}
 use Rattle.pages.specs.Pages.{switchedOff, switchedOn, stopped, isSpent}
 use Rattle.replies.specs.Fills.{applied}
+use Rattle.state.specs.declared.Resetting.{Resetting}
+use Rattle.asks.specs.declared.Asking.{Asking}
+use Rattle.accesses.specs.declared.Accessing.{Accessing}
 use Rattle.state.specs.declared.Function.{Function}
 use Rattle.state.specs.Answers.{Deed}
 use Rattle.state.specs.Switches.{resetting, enabling, disabling, isGranted, switchingOn, switchingOff}
@@ -79,9 +82,9 @@ module _ (f : Function) (c : Command) (bytes : List ℕ) (P : Cache → List Pla
   abbrev Over : Deed → Type 0
   Over d = P (d .state .cache) (d .state .places) (d .state .pages)
 
-  resets : (id stu rcb : ℕ) → Does Over (resetting id stu rcb)
+  resets : (a : Resetting) → Does Over (resetting a)
   unfolding resetting
-  resets id stu rcb = search (does, k .reset)
+  resets a = search (does, k .reset)
 
   enables : Does Over (enabling f)
   unfolding enabling
@@ -103,20 +106,20 @@ module _ (f : Function) (c : Command) (bytes : List ℕ) (P : Cache → List Pla
   switches-off On = search (does, k .switchOff)
   switches-off Stopped = search (does, k .same)
 
-  asks : (address units : ℕ) (nowrite : Bool) (out : List ℕ) → Does Over (asking f address units nowrite out)
+  asks : (a : Asking) (out : List ℕ) → Does Over (asking f a out)
   unfolding asking
-  asks address units nowrite out = search (does, k .place)
+  asks a out = search (does, k .place)
 
-  goes : (way : Way) (at : Target) (address words : ℕ) (load out : List ℕ) → Does Over (going f way at address words load out)
-  goes ToRead at address words load out = search (does, k .place)
-  goes ToWrite at address words load out = search (does, k .same)
+  goes : (way : Way) (at : Target) (a : Accessing) (load out : List ℕ) → Does Over (going f way at a load out)
+  goes ToRead at a load out = search (does, k .place)
+  goes ToWrite at a load out = search (does, k .same)
 
-  accesses : (way : Way) (address words : ℕ) (load out : List ℕ) → Does Over (accessing f way address words load out)
+  accesses : (a : Accessing) (load out : List ℕ) → Does Over (accessing f a load out)
   unfolding accessing
-  accesses way address words load out = go (lookingUp f way address words (length load))
+  accesses a load out = go (lookingUp f a (length load))
     where
-      go : (s : Said Target) → Does Over (goingIf f way address words load out s)
-      go (gives at) = goes way at address words load out
+      go : (s : Said Target) → Does Over (goingIf f a load out s)
+      go (gives at) = goes (a .way) at a load out
       go (number n) = search does
 
   drains : (out : List ℕ) → Does Over (draining f out)
@@ -162,11 +165,11 @@ module _ (f : Function) (c : Command) (bytes : List ℕ) (P : Cache → List Pla
 
   calls : (x : Command) (out : List ℕ) → c ≡ x → Does Over (calling f x bytes out)
   unfolding calling
-  calls (Reset a) out e = resets (a .id) (a .stu) (a .rcb)
+  calls (Reset a) out e = resets a
   calls Enable out e = enables
   calls Disable out e = disables
-  calls (Asks a) out e = asks (a .address) (a .units) (a .nowrite) out
-  calls (Access a) out e = accesses (a .way) (a .address) (a .words) bytes out
+  calls (Asks a) out e = asks a out
+  calls (Access a) out e = accesses a bytes out
   calls Receive out e = receives e
   calls Drain out e = drains out
   calls (PagesOn allocation) out e = switches-on allocation (f .pages .interface)

@@ -1,9 +1,11 @@
 // The Function as its users see it: every call, and the one entry over them all.
+pub use accesses::Accessing;
 pub use accesses::Goes;
 pub use accesses::Target;
 pub use accesses::Way;
 pub use accesses::access;
 pub use accesses::look_up;
+pub use asks::Asking;
 pub use asks::ask;
 pub use drains::drain;
 pub use drains::ready;
@@ -13,7 +15,7 @@ pub use packet::PrgIndex;
 pub use packet::Refusal;
 pub use packet::Tag;
 pub use packet::number;
-pub use receives::read_payload;
+pub use receives::payload_of;
 pub use receives::receive;
 pub use replies::Rcb;
 pub use requests::page_request;
@@ -21,6 +23,7 @@ pub use state::Agent;
 pub use state::Answer;
 pub use state::Effect;
 pub use state::Function;
+pub use state::Resetting;
 pub use state::disable;
 pub use state::enable;
 pub use state::new;
@@ -30,24 +33,6 @@ pub use state::reset;
 ghost use mathlib.Core.Path.{_≡_};
 ghost use Rattle.state.specs.Answers.{told};
 ghost use Rattle.card.specs.Call.{step};
-
-pub struct Resetting {
-    pub id: u16,
-    pub stu: u8,
-    pub rcb: u8,
-}
-
-pub struct Asking {
-    pub address: u64,
-    pub units: u16,
-    pub nowrite: bool,
-}
-
-pub struct Accessing {
-    pub way: Way,
-    pub address: u64,
-    pub words: u16,
-}
 
 // A call with its arguments. The bytes of a packet that is received, or of an access's payload,
 // come beside it.
@@ -64,23 +49,16 @@ pub enum Command {
     PageRequest(PageRequest),
 }
 
-fn reach(f: Function, a: Accessing, bytes: &[u8], out: &mut [u8]) -> Effect
-    ensures { λ r. ⌜ told r (now (out .exit)) ≡ step f (Command.Access a) (now (bytes .entry)) (now (out .entry)) ⌝ }
-{
-    let way = a.way;
-    access(f, way, a.address, a.words, bytes, out)
-}
-
 // Any call on any state.
 pub fn call(f: Function, c: Command, bytes: &[u8], out: &mut [u8]) -> Effect
     ensures { λ r. ⌜ told r (now (out .exit)) ≡ step f c (now (bytes .entry)) (now (out .entry)) ⌝ }
 {
     match c {
-        Command::Reset(a) => reset(f, a.id, a.stu, a.rcb),
+        Command::Reset(a) => reset(f, a),
         Command::Enable => enable(f),
         Command::Disable => disable(f),
-        Command::Ask(a) => ask(f, a.address, a.units, a.nowrite, out),
-        Command::Access(a) => reach(f, a, bytes, out),
+        Command::Ask(a) => ask(f, a, out),
+        Command::Access(a) => access(f, a, bytes, out),
         Command::Receive => receive(f, bytes),
         Command::Drain => drain(f, out),
         Command::PagesOn(allocation) => pages_on(f, allocation),

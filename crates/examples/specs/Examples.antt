@@ -136,7 +136,7 @@ sends f c bytes = let r = step f c bytes buffer in (r .says, r .sent, r .buffer)
 
 -- the address that a read of one DWORD goes to, or why it is refused
 abbrev reads : Function → ℕ → Said Target
-reads f address = lookingUp f ToRead address 1 0
+reads f address = lookingUp f (record { way = ToRead; address = address; words = 1 }) 0
 
 -- example 1: 3 units from 0 at STU 0, answered by 16384 bytes at 4000 0000h with R and W, then an Invalidate Request
 abbrev invalidated-by : ℕ → Function

@@ -25,7 +25,7 @@ use Rattle.state.specs.State.{fresh, isRcb, rcbOf}
 use Rattle.state.specs.Answers.{Deed, Result, ended}
 use Rattle.state.specs.Switches.{resetting}
 use Rattle.state.specs.Laws.{Does, does-number, does-case}
-use Rattle.card.specs.declared.Resetting.{Resetting}
+use Rattle.state.specs.declared.Resetting.{Resetting}
 use Rattle.card.specs.declared.Command.{Command}
 use Rattle.card.specs.declared.Command.the-variants.{Reset, Enable, Disable, Ask as Asks, Access as Accesses, Receive, Drain, PagesOn, PagesOff, PageRequest}
 use Rattle.card.specs.Call.{calling, step}
@@ -44,7 +44,7 @@ use Rattle.keeps.specs.Receives.{good-receive}
 
 module _ (me : Noted) (f : Function) (o : Ok me f) where
   -- a reset that is not accepted is refused
-  refused-reset : (a : Resetting) (c : Call) (out : List ℕ) → isRefused (ended f out (resetting (a .id) (a .stu) (a .rcb)) .says) ≡ true → Does (Good me f c) (resetting (a .id) (a .stu) (a .rcb))
+  refused-reset : (a : Resetting) (c : Call) (out : List ℕ) → isRefused (ended f out (resetting a) .says) ≡ true → Does (Good me f c) (resetting a)
   unfolding resetting
   refused-reset a c out r =
       does-case _ (leb (a .stu) 31) _ _
@@ -54,7 +54,7 @@ module _ (me : Noted) (f : Function) (o : Ok me f) where
   good : (x : Command) (bytes out : List ℕ) (ty : isTyped x ≡ true) (are : areBytes bytes ≡ true) → (not (isRefused (step f x bytes out .says)) && isReset x) ≡ false
       → Does (Good me f (record { command = x; bytes = bytes; out = out; typed = ty; octets = are })) (calling f x bytes out)
   unfolding calling
-  good (Reset a) bytes out ty are u = refused-reset a _ out (was (isRefused (ended f out (resetting (a .id) (a .stu) (a .rcb)) .says)) u)
+  good (Reset a) bytes out ty are u = refused-reset a _ out (was (isRefused (ended f out (resetting a) .says)) u)
     where
       was : (b : Bool) → (not b && true) ≡ false → b ≡ true
       was true e = refl

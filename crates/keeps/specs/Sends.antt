@@ -45,8 +45,8 @@ use Rattle.accesses.specs.declared.Way.the-variants.{Read as ToRead, Write as T
 use Rattle.accesses.specs.declared.Target.{Target}
 use Rattle.accesses.specs.Access.{memoryOf, unitAt, isAllowed, enteredBy, targetOf, isInPage, going, goingIf, lookingUp, accessing}
 use Rattle.requests.specs.PageRequests.{pageOf, isAsked, requested, requestingOn, requesting}
-use Rattle.card.specs.declared.Asking.{Asking}
-use Rattle.card.specs.declared.Accessing.{Accessing}
+use Rattle.asks.specs.declared.Asking.{Asking}
+use Rattle.accesses.specs.declared.Accessing.{Accessing}
 use Rattle.card.specs.declared.Command.{Command}
 use Rattle.card.specs.declared.Command.the-variants.{Enable, Disable, Ask as Asks, Access as Accesses, PagesOn, PagesOff, PageRequest as PageRequests}
 use Rattle.lemmas.specs.Bools.{no-tf, no-some}
@@ -183,17 +183,17 @@ module _ (me : Noted) (f : Function) (o : Ok me f) (a : Asking) (bytes out : Lis
   asks-units : (units : ℕ) → 1 ≤ units → dwordsOf (2 * units) / 2 - 1 ≡ units - 1
   asks-units units h = rw (ne-eqb (2 * units) 0 (omega arith)) (omega arith)
 
-  pub good-ask : Does (Good me f ask-call) (asking f (a .address) (a .units) (a .nowrite) out)
+  pub good-ask : Does (Good me f ask-call) (asking f a out)
   unfolding asking
   good-ask =
       does-case _ (f .enabled) _ _
-      (λ on. does-case _ (isAskable (f .rcb) (f .stu) (a .address) (a .units)) _ _
+      (λ on. does-case _ (isAskable (f .rcb) (f .stu) a) _ _
       (λ few. does-case _ (isTag (freeTag (f .places))) _ _
       (λ own. let t = freeTag (f .places) in
       let b = asked (a .address) (a .units - 1) in
-      let n = few-units (f .rcb) (f .stu) (a .address) (a .units) few in
-      good-send me f ask-call _ _ (requestOf (f .id) t (a .address) (a .units) (a .nowrite)) []
-      (typed-request (headOf (f .id)) (o .id) _ (omega (arith, ltb-true (t .0) 32 own)) (omega (arith, ltb-true (a .address) (2 ^ 64) ty))) (own-packet me (requestOf (f .id) t (a .address) (a .units) (a .nowrite)) (o .own) refl refl)
+      let n = few-units (f .rcb) (f .stu) a few in
+      good-send me f ask-call _ _ (requestOf (f .id) t a) []
+      (typed-request (headOf (f .id)) (o .id) _ (omega (arith, ltb-true (t .0) 32 own)) (omega (arith, ltb-true (a .address) (2 ^ 64) ty))) (own-packet me (requestOf (f .id) t a) (o .own) refl refl)
       (opened-ok me f o t own b (λ q e d. let z : 0 ≡ q .whole = cc in sym z) in-none) (λ i. refl)
       (rw (asks-units (a .units) (n .0), run-low-bits (a .address) (a .units - 1) (me .stu), ← o .unit)
       (open-step me f o t own b (free-tag (f .places) (o .tags) own) (TR (t .0) (record { stu = f .stu; range = runOf (a .address) (a .units - 1) (f .stu) })) (λ u. refl)
@@ -214,7 +214,7 @@ module _ (me : Noted) (f : Function) (o : Ok me f) (a : Accessing) (bytes out : 
   abbrev access-call : Call
   access-call = record { command = Accesses a; bytes = bytes; out = out; typed = ty; octets = octets }
 
-  goes : (at : Target) → lookingUp f (a .way) (a .address) (a .words) (length bytes) ≡ gives at → Goes f (a .address) (a .words) at
+  goes : (at : Target) → lookingUp f a (length bytes) ≡ gives at → Goes f (a .address) (a .words) at
   unfolding lookingUp
   goes at e =
       let on = demanded (f .enabled) 6 _ e in
@@ -263,7 +263,7 @@ module _ (me : Noted) (f : Function) (o : Ok me f) (a : Accessing) (bytes out : 
           let two : at .address ≡ k = ap (λ (z : Wanted × ℕ). z .1) both in
           rw (one, two) at (g .by t bytes)
 
-  goes-good : (way : Way) → a .way ≡ way → (at : Target) → Goes f (a .address) (a .words) at → Does (Good me f access-call) (going f way at (a .address) (a .words) bytes out)
+  goes-good : (way : Way) → a .way ≡ way → (at : Target) → Goes f (a .address) (a .words) at → Does (Good me f access-call) (going f way at a bytes out)
   goes-good ToWrite is at g =
       good-send me f access-call _ _ (memoryOf (f .id) Write (a .words) at) bytes (typed-access (headOf (f .id)) (o .id) _ tt (g .inside)) (own-packet me (memoryOf (f .id) Write (a .words) at) (o .own) refl refl) o (λ i. refl)
       (writes (view f) (at .translated) _ (at .address) (served ToWrite is at g _))
@@ -279,11 +279,11 @@ module _ (me : Noted) (f : Function) (o : Ok me f) (a : Accessing) (bytes out : 
       (λ w k e. served ToRead is at g (4 * a .words) w k (rw is e)))))
       (λ e. does-number _ 11)
 
-  pub good-access : Does (Good me f access-call) (accessing f (a .way) (a .address) (a .words) bytes out)
+  pub good-access : Does (Good me f access-call) (accessing f a bytes out)
   unfolding accessing
-  good-access = go (lookingUp f (a .way) (a .address) (a .words) (length bytes)) refl
+  good-access = go (lookingUp f a (length bytes)) refl
     where
-      go : (s : Said Target) → lookingUp f (a .way) (a .address) (a .words) (length bytes) ≡ s → Does (Good me f access-call) (goingIf f (a .way) (a .address) (a .words) bytes out s)
+      go : (s : Said Target) → lookingUp f a (length bytes) ≡ s → Does (Good me f access-call) (goingIf f a bytes out s)
       go (gives at) e = goes-good (a .way) refl at (goes at e)
       go (number n) e = does-number _ n
 

@@ -75,19 +75,12 @@ fn call(f: Function, r: &[u8], lent: &mut [u8]) -> Effect {
     card::call(f, command, calls::take_bytes(r), &mut lent[..room])
 }
 
-// The payload that a received packet brings for a read.
-fn handed_back(f: Function, r: &[u8]) -> &[u8] {
-    if calls::is_receive(r) {
-        card::read_payload(f, calls::take_bytes(r))
-    } else {
-        take::front(r, 0)
-    }
-}
-
 fn play_call(f: Function, r: &[u8], out: &mut [u8], at: usize) -> Played {
     let mut lent = [0xA5u8; 256];
     let e = call(f, r, &mut lent);
-    let end = put_effect(e, &lent, handed_back(f, r), out, at);
+    let answer = e.answer;
+    let payload = card::payload_of(answer, calls::take_bytes(r));
+    let end = put_effect(e, &lent, payload, out, at);
     let state = e.state;
     Played { state, at: end }
 }

@@ -3,14 +3,13 @@ use mathlib.Core.Bool.{Bool, true, false, cond}
 use mathlib.Core.List.{List, []}
 use Prim.Native.Nat.{ℕ}
 use lib.Dec.{eqb}
-use lib.ListN.{drop}
 use Rattle.packet.specs.declared.Body.{Body}
 use Rattle.packet.specs.declared.Body.the-variants.{Tr, Mem, Cpl, Inv, Ic, Prq, Prs}
 use Rattle.packet.specs.declared.Packet.{Packet}
 use Rattle.packet.specs.Numbers.{Said, gives, number, demand}
 use Rattle.packet.specs.Reading.{reading, payloadIn}
 use Rattle.state.specs.declared.Function.{Function}
-use Rattle.state.specs.Answers.{Word, done, tag, carries, discarded, more, filled, aborted, switchedOff, payloadMore, payloadLast, readFailed, Deed, ended}
+use Rattle.state.specs.Answers.{Word, done, tag, carries, discarded, more, filled, aborted, switchedOff, payloadMore, payloadLast, readFailed, Deed}
 use Rattle.completions.specs.Completions.{completed}
 use Rattle.snoops.specs.Invalidate.{invalidated}
 use Rattle.receives.specs.Responses.{responded}
@@ -47,6 +46,6 @@ isPayload (gives payloadLast) = true
 isPayload (gives readFailed) = false
 isPayload (number n) = false
 
--- the payload handed back: the packet from byte 12 on where receiving it answers payload, else nothing
-unfoldable pub handedBack : Function → List ℕ → List ℕ
-handedBack f b = cond (isPayload (ended f [] (received f b) .says)) (drop 12 b) []
+-- the payload handed back, by the answer to these bytes: what the packet layer reads as payload, and nothing with any other answer
+unfoldable pub payloadFor : Said Word → List ℕ → List ℕ
+payloadFor a b = cond (isPayload a) (payloadIn b) []

@@ -21,7 +21,7 @@ ghost use Rattle.state.specs.Answers.{told, ended, paper};
 ghost use Rattle.completions.specs.Completions.{completed};
 ghost use Rattle.snoops.specs.Invalidate.{invalidated};
 ghost use Rattle.receives.specs.Responses.{answeredIn, respondedOn, responded};
-ghost use Rattle.receives.specs.Receive.{taken, received, isPayload, handedBack};
+ghost use Rattle.receives.specs.Receive.{taken, received, isPayload, payloadFor};
 
 fn is_awaited(pages: Pages, k: PrgIndex) -> bool
     ensures { λ r. ⌜ r ≡ (isIndex k && isWaiting (pages .groups) k) ⌝ }
@@ -153,15 +153,13 @@ fn is_payload(a: Answer) -> bool
     }
 }
 
-// The payload that a packet brings for a read: the packet's own bytes from byte 12 on, exactly
-// where `receive` on this state and packet answers payload; else none.
-pub fn read_payload(f: Function, b: &[u8]) -> &[u8]
-    ensures { λ r. ⌜ now r ≡ handedBack f (now (b .entry)) ⌝ }
+// The payload that a completion for a read hands back, by what `receive` of these bytes answered: the
+// part of the packet that the packet layer reads as its payload. For every other answer the part is empty.
+pub fn payload_of(answer: Answer, b: &[u8]) -> &[u8]
+    ensures { λ r. ⌜ now r ≡ payloadFor (paper answer) (now (b .entry)) ⌝ }
 {
-    let e = receive(f, b);
-    let answer = e.answer;
     if is_payload(answer) {
-        tlp::part_from(b, 12)
+        tlp::payload(b)
     } else {
         tlp::part_from(b, b.len())
     }

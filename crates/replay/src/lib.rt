@@ -63,31 +63,39 @@ fn page_request(s: Step) -> PageRequest {
     }
 }
 
-fn accessing(s: Step, way: Way) -> Command {
-    Command::Access(Accessing {
+fn resetting(s: Step) -> Resetting {
+    Resetting {
+        id: s.number,
+        stu: s.flags,
+        rcb: (s.address % 256) as u8,
+    }
+}
+
+fn asking(s: Step) -> Asking {
+    Asking {
+        address: s.address,
+        units: s.number,
+        nowrite: s.flags % 2 == 1,
+    }
+}
+
+fn accessing(s: Step, way: Way) -> Accessing {
+    Accessing {
         way,
         address: s.address,
         words: s.number,
-    })
+    }
 }
 
 fn command(s: Step) -> Command {
     let code = s.code;
     match code {
-        0 => Command::Reset(Resetting {
-            id: s.number,
-            stu: s.flags,
-            rcb: (s.address % 256) as u8,
-        }),
+        0 => Command::Reset(resetting(s)),
         1 => Command::Enable,
         2 => Command::Disable,
-        3 => Command::Ask(Asking {
-            address: s.address,
-            units: s.number,
-            nowrite: s.flags % 2 == 1,
-        }),
-        4 => accessing(s, Way::Read),
-        5 => accessing(s, Way::Write),
+        3 => Command::Ask(asking(s)),
+        4 => Command::Access(accessing(s, Way::Read)),
+        5 => Command::Access(accessing(s, Way::Write)),
         6 => Command::Receive,
         7 => Command::Drain,
         8 => Command::PagesOn(s.number),
@@ -100,24 +108,18 @@ fn command(s: Step) -> Command {
 fn single(f: Function, s: Step, bytes: &[u8], out: &mut [u8]) -> Effect {
     let code = s.code;
     match code {
-        0 => card::reset(f, s.number, s.flags, (s.address % 256) as u8),
+        0 => card::reset(f, resetting(s)),
         1 => card::enable(f),
         2 => card::disable(f),
-        3 => card::ask(f, s.address, s.number, s.flags % 2 == 1, out),
-        4 => card::access(f, Way::Read, s.address, s.number, bytes, out),
-        5 => card::access(f, Way::Write, s.address, s.number, bytes, out),
+        3 => card::ask(f, asking(s), out),
+        4 => card::access(f, accessing(s, Way::Read), bytes, out),
+        5 => card::access(f, accessing(s, Way::Write), bytes, out),
         6 => card::receive(f, bytes),
         7 => card::drain(f, out),
         8 => card::pages_on(f, s.number),
         9 => card::pages_off(f),
         _ => card::page_request(f, page_request(s), out),
     }
-}
-
-// The packet that a call receives; of any other call nothing.
-fn received(s: Step, bytes: &[u8]) -> &[u8] {
-    let n = if s.code == 6 { bytes.len() } else { 0 };
-    take::front(bytes, n)
 }
 
 // Every call through the one entry, from a new Function on. The sum is of the answers and the
@@ -134,15 +136,13 @@ pub extern "C" fn card_by_call(script: &[u64], pool: &[u8], out: &mut [u8], chec
         let s = step_at(script, i);
         i += 1;
         let bytes = bytes_of(s, pool);
-        if checked {
-            sum = sums::of_bytes(sum, card::read_payload(f, received(s, bytes)));
-        }
         let room = room_of(s, out.len());
         let e = card::call(f, command(s), bytes, &mut out[..room]);
         let answer = e.answer;
         let sent = e.sent;
         f = e.state;
         if checked {
+            sum = sums::of_bytes(sum, card::payload_of(answer, bytes));
             sum = sums::of_bytes(sum, out);
         }
         sum = sums::of_answer(sum, answer, sent);
@@ -166,15 +166,13 @@ pub extern "C" fn card_by_single_calls(
         let s = step_at(script, i);
         i += 1;
         let bytes = bytes_of(s, pool);
-        if checked {
-            sum = sums::of_bytes(sum, card::read_payload(f, received(s, bytes)));
-        }
         let room = room_of(s, out.len());
         let e = single(f, s, bytes, &mut out[..room]);
         let answer = e.answer;
         let sent = e.sent;
         f = e.state;
         if checked {
+            sum = sums::of_bytes(sum, card::payload_of(answer, bytes));
             sum = sums::of_bytes(sum, out);
         }
         sum = sums::of_answer(sum, answer, sent);

@@ -12,7 +12,7 @@ use Rattle.asks.proofs.ask.Reads as ask
 use Rattle.accesses.proofs.look_up.Reads as look-up
 use Rattle.accesses.proofs.access.Reads as access
 use Rattle.receives.proofs.receive.Reads as receive
-use Rattle.receives.proofs.read_payload.Reads as read-payload
+use Rattle.receives.proofs.payload_of.Reads as payload-of
 use Rattle.drains.proofs.ready.Reads as ready
 use Rattle.drains.proofs.drain.Reads as drain
 use Rattle.state.proofs.pages_on.Reads as pages-on
@@ -32,20 +32,20 @@ enable-settled κs args x y e g p q = told-back x y [] [] (p ∙ sym q) .0
 pub disable-settled : (κs : Lfts 0) (args : _) (x y : _) (e g : _) → disable.Learnt κs args x e → disable.Learnt κs args y g → x ≡ y
 disable-settled κs args x y e g p q = told-back x y [] [] (p ∙ sym q) .0
 
-pub ask-settled : (κs : Lfts 1) (args : _) (x y : _) (e g : _) → ask.Learnt κs args x e → ask.Learnt κs args y g → (x ≡ y) × (now (e .1 .1 .1 .1 .0) ≡ now (g .1 .1 .1 .1 .0))
-ask-settled κs args x y e g p q = told-back x y (now (e .1 .1 .1 .1 .0)) (now (g .1 .1 .1 .1 .0)) (p ∙ sym q)
+pub ask-settled : (κs : Lfts 1) (args : _) (x y : _) (e g : _) → ask.Learnt κs args x e → ask.Learnt κs args y g → (x ≡ y) × (now (e .1 .1 .0) ≡ now (g .1 .1 .0))
+ask-settled κs args x y e g p q = told-back x y (now (e .1 .1 .0)) (now (g .1 .1 .0)) (p ∙ sym q)
 
 pub look-up-settled : (κs : Lfts 0) (args : _) (x y : _) (e g : _) → look-up.Learnt κs args x e → look-up.Learnt κs args y g → x ≡ y
 look-up-settled κs args x y e g p q = goes-told x y (p ∙ sym q)
 
-pub access-settled : (κs : Lfts 2) (args : _) (x y : _) (e g : _) → access.Learnt κs args x e → access.Learnt κs args y g → (x ≡ y) × (now (e .1 .1 .1 .1 .1 .0) ≡ now (g .1 .1 .1 .1 .1 .0))
-access-settled κs args x y e g p q = told-back x y (now (e .1 .1 .1 .1 .1 .0)) (now (g .1 .1 .1 .1 .1 .0)) (p ∙ sym q)
+pub access-settled : (κs : Lfts 2) (args : _) (x y : _) (e g : _) → access.Learnt κs args x e → access.Learnt κs args y g → (x ≡ y) × (now (e .1 .1 .1 .0) ≡ now (g .1 .1 .1 .0))
+access-settled κs args x y e g p q = told-back x y (now (e .1 .1 .1 .0)) (now (g .1 .1 .1 .0)) (p ∙ sym q)
 
 pub receive-settled : (κs : Lfts 1) (args : _) (x y : _) (e g : _) → receive.Learnt κs args x e → receive.Learnt κs args y g → x ≡ y
 receive-settled κs args x y e g p q = told-back x y [] [] (p ∙ sym q) .0
 
-pub read-payload-settled : (κs : Lfts 1) (args : _) (x y : _) (e g : _) → read-payload.Learnt κs args x e → read-payload.Learnt κs args y g → now x ≡ now y
-read-payload-settled κs args x y e g p q = p ∙ sym q
+pub payload-of-settled : (κs : Lfts 1) (args : _) (x y : _) (e g : _) → payload-of.Learnt κs args x e → payload-of.Learnt κs args y g → now x ≡ now y
+payload-of-settled κs args x y e g p q = p ∙ sym q
 
 pub ready-settled : (κs : Lfts 0) (args : _) (x y : _) (e g : _) → ready.Learnt κs args x e → ready.Learnt κs args y g → x ≡ y
 ready-settled κs args x y e g p q = p ∙ sym q

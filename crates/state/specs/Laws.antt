@@ -16,7 +16,7 @@ use Rattle.state.specs.Answers.{Word, Deed, ended, plainly, sentAs, send
 use Rattle.state.specs.Switches.{resetting}
 
 -- resetting to ID 0, STU 0, RCB 64 leaves a new Function, whatever was before
-pub reset-is-new : (f : Function) (out : List ℕ) → ended f out (resetting 0 0 64) .state ≡ fresh 0 0 (rcbOf 64)
+pub reset-is-new : (f : Function) (out : List ℕ) → ended f out (resetting (record { id = 0; stu = 0; rcb = 64 })) .state ≡ fresh 0 0 (rcbOf 64)
 unfolding resetting
 reset-is-new f out = refl
 

@@ -9,15 +9,16 @@ use Rattle.pages.specs.declared.Interface.{Interface}
 use Rattle.pages.specs.declared.Interface.the-variants.{Off, On, Stopped}
 use Rattle.pages.specs.Pages.{switchedOff, switchedOn}
 use Rattle.state.specs.declared.Function.{Function}
+use Rattle.state.specs.declared.Resetting.{Resetting}
 use Rattle.state.specs.State.{isRcb, rcbOf, fresh, remade, withEnable, withPages}
 use Rattle.state.specs.Answers.{Deed, done, plainly}
 
 -- a reset sets ID, STU and RCB; an STU over 31 and an RCB that is none are 12
-unfoldable pub resetting : ℕ → ℕ → ℕ → Said Deed
-resetting id stu rcb =
-    demand 12 (leb stu 31)
-    (demand 12 (isRcb rcb)
-    (plainly (fresh id stu (rcbOf rcb)) done))
+unfoldable pub resetting : Resetting → Said Deed
+resetting a =
+    demand 12 (leb (a .stu) 31)
+    (demand 12 (isRcb (a .rcb))
+    (plainly (fresh (a .id) (a .stu) (rcbOf (a .rcb))) done))
 
 -- from clear to set E empties the cache, the hand staying, and marks open Translation Requests stale
 unfoldable pub enabling : Function → Said Deed

@@ -113,15 +113,22 @@ fn rcb_of(bytes: u8) -> Rcb
     if bytes == 128 { Rcb::B128 } else { Rcb::B64 }
 }
 
-pub fn reset(f: Function, id: u16, stu: u8, rcb: u8) -> Effect
-    ensures { λ r. ⌜ told r [] ≡ ended f [] (resetting id stu rcb) ⌝ }
+// What a reset sets.
+pub struct Resetting {
+    pub id: u16,
+    pub stu: u8,
+    pub rcb: u8,
+}
+
+pub fn reset(f: Function, a: Resetting) -> Effect
+    ensures { λ r. ⌜ told r [] ≡ ended f [] (resetting a) ⌝ }
 {
-    if 31 < stu {
+    if 31 < a.stu {
         return refused(f, Refusal::Argument);
     }
-    if is_rcb(rcb) {
-        let boundary = rcb_of(rcb);
-        answered(fresh_function(id, stu, boundary), Answer::Done)
+    if is_rcb(a.rcb) {
+        let rcb = rcb_of(a.rcb);
+        answered(fresh_function(a.id, a.stu, rcb), Answer::Done)
     } else {
         refused(f, Refusal::Argument)
     }

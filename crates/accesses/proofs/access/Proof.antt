@@ -13,7 +13,7 @@ enum-known-at c = search needs
 
 go-requires : tie.Need-go-requires
 go-requires c κs = let l = c .before .before .before .before in
-    reached _ _ _ _ _ _ (sym (l .look-up .ensures) ∙ ap paperGoes (c .before .before .at .given .1)) .few
+    reached _ _ _ _ (sym (l .look-up .ensures) ∙ ap paperGoes (c .before .before .at .given .1)) .few
 
 enum-known-r : tie.Need-enum-known-r
 enum-known-r c = search needs

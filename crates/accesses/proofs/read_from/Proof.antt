@@ -14,7 +14,7 @@ enum-known-n : tie.Need-enum-known-n
 enum-known-n c = search needs
 
 mul-reading : tie.Need-mul-reading
-mul-reading c = omega (arith, c .before .before .before .before .before .before .before .before .before .before .pre)
+mul-reading c = omega (arith, c .before .before .before .before .before .before .before .before .before .before .before .pre)
 
 reading-requires : tie.Need-reading-requires
 reading-requires c κs = search needs
@@ -32,9 +32,9 @@ same-length : tie.Need-same-length
 same-length c = search needs
 
 returns : tie.Need-returns
-returns c = let k = c .before .before .before .before .before .before .before in
+returns c = let k = c .before .before .before .before .before .before .before .before in
     let p = k .before .before .memory .ensures in
-    let e = rw (c .before .before .before .n .given .1, p) at (k .write-packet .ensures .0) in
+    let e = rw (c .before .before .before .before .n .given .1, p) at (k .write-packet .ensures .0) in
     rw (c .with-place .ensures, c .before .reading .ensures) (end-sent _ _ _ _ _ _ _ (rw p at (k .write-packet .ensures .1)) _ e)
 
 same-length-2 : tie.Need-same-length-2

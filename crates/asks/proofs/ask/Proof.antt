@@ -1,5 +1,4 @@
 use mathlib.Core.Path.{sym, _∙_, refl}
-use native.Mathlib.Omega.{arith}
 use Rattle.state.specs.Ends.{end-take, end-skip}
 use Rattle.asks.specs.Ask.{few-units, asking}
 use borrow.Author.Needs.{needs}
@@ -15,12 +14,8 @@ lowest-free-requires c κs = search needs
 is-tag-requires : tie.Need-is-tag-requires
 is-tag-requires c κs = search needs
 
-cast-ask-with : tie.Need-cast-ask-with
-cast-ask-with c = let q = c .before .before .before .before .before in
-    omega (arith, few-units _ _ _ _ (sym (q .is-askable .ensures) ∙ c .before .if2 .taken) .1)
-
 ask-with-requires : tie.Need-ask-with-requires
-ask-with-requires c κs = search needs
+ask-with-requires c κs = few-units _ _ _ (sym (c .before .before .before .before .before .before .is-askable .ensures) ∙ c .before .before .if2 .taken) .1
 
 refused-requires : tie.Need-refused-requires
 refused-requires c κs = search needs
@@ -69,7 +64,6 @@ ask-spec =
     is-askable-requires
     lowest-free-requires
     is-tag-requires
-    cast-ask-with
     ask-with-requires
     refused-requires
     refused-requires-2

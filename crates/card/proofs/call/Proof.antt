@@ -34,8 +34,8 @@ ask-requires c κs = search needs
 enum-known-c-3 : tie.Need-enum-known-c-3
 enum-known-c-3 c = search needs
 
-reach-requires : tie.Need-reach-requires
-reach-requires c κs = search needs
+access-requires : tie.Need-access-requires
+access-requires c κs = search needs
 
 enum-told-3 : tie.Need-enum-told-3
 enum-told-3 c = search needs
@@ -71,7 +71,7 @@ returns : tie.Need-returns
 unfolding calling
 returns c = let a = c .before .before .before .before .before .before .args in
     let x = c .before .before .c .given .0 .0 in
-    rw (c .before .before .c .given .1) (quiet (a .f) _ _ _ (now (a .out)) (resetting (x .id) (x .stu) (x .rcb)) (c .reset .ensures))
+    rw (c .before .before .c .given .1) (quiet (a .f) _ _ _ (now (a .out)) (resetting x) (c .reset .ensures))
 
 returns-2 : tie.Need-returns-2
 unfolding calling
@@ -94,7 +94,8 @@ same-length-2 : tie.Need-same-length-2
 same-length-2 c = search needs
 
 returns-5 : tie.Need-returns-5
-returns-5 c = rw (c .before .before .before .before .before .c3 .given .1) (c .before .before .reach .ensures)
+unfolding calling
+returns-5 c = rw (c .before .before .before .before .before .c3 .given .1) (c .before .before .access .ensures)
 
 returns-6 : tie.Need-returns-6
 unfolding calling
@@ -138,7 +139,7 @@ call-spec =
     enum-known-c-2
     ask-requires
     enum-known-c-3
-    reach-requires
+    access-requires
     enum-told-3
     receive-requires
     enum-told-4

@@ -27,15 +27,6 @@ add-i c = search needs
 bytes-of-requires : tie.Need-bytes-of-requires Inv-loop μ-loop
 bytes-of-requires c κs = tt
 
-received-requires : tie.Need-received-requires Inv-loop μ-loop
-received-requires c κs = tt
-
-read-payload-requires : tie.Need-read-payload-requires Inv-loop μ-loop
-read-payload-requires c κs = tt
-
-of-bytes-requires : tie.Need-of-bytes-requires Inv-loop μ-loop
-of-bytes-requires c κs = tt
-
 room-of-requires : tie.Need-room-of-requires Inv-loop μ-loop
 room-of-requires c κs = tt
 
@@ -50,6 +41,12 @@ slice-aggregate-call c = sym (length-take-le _ _ (c .before .before .room-of .en
 
 call-requires : tie.Need-call-requires Inv-loop μ-loop
 call-requires c κs = tt
+
+payload-of-requires : tie.Need-payload-of-requires Inv-loop μ-loop
+payload-of-requires c κs = tt
+
+of-bytes-requires : tie.Need-of-bytes-requires Inv-loop μ-loop
+of-bytes-requires c κs = tt
 
 of-bytes-requires-2 : tie.Need-of-bytes-requires-2 Inv-loop μ-loop
 of-bytes-requires-2 c κs = tt
@@ -89,14 +86,13 @@ card-by-call-spec =
     step-at-requires
     add-i
     bytes-of-requires
-    received-requires
-    read-payload-requires
-    of-bytes-requires
     room-of-requires
     command-requires
     slice-relend-prefix-call
     slice-aggregate-call
     call-requires
+    payload-of-requires
+    of-bytes-requires
     of-bytes-requires-2
     of-answer-requires
     loop-less

@@ -41,7 +41,7 @@ requestOf id t a =
     }
 
 abbrev pub askFrom : Function → Tag → Asking → List ℕ → Said Deed
-askFrom f t a out = sending (withPlace f t (asked (a .address) (a .units - 1))) (tag (t .0)) (requestOf (f .id) t a) [] out
+askFrom f t a out = sending (withPlace f t (asked (a .address) (a .units - 1) (f .stu))) (tag (t .0)) (requestOf (f .id) t a) [] out
 
 -- 6, 12, 11, 17
 unfoldable pub asking : Function → Asking → List ℕ → Said Deed

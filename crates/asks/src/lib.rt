@@ -83,7 +83,7 @@ fn ask_with(f: Function, tag: Tag, a: Asking, out: &mut [u8]) -> Effect
     let p = request(f.id, tag, a);
     match tlp::write_packet(p, &none, out) {
         Writing::Written(n) => {
-            let o = tags::asking(a.address, further(a.units));
+            let o = tags::asking(a.address, further(a.units), f.stu);
             let answer = Answer::Opened(tag);
             Effect {
                 state: state::with_place(f, tag, o),

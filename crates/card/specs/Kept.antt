@@ -84,8 +84,8 @@ sound-kept f c bytes out h = step-keeps f c bytes SoundTables kept out
           reset = fresh-sound 0 0 (rcbOf 64);
           enable = record { cache = empty-sound (f .cache .hand); tags = staled-long (f .places) ∙ h .tags; pages = h .pages };
           place = λ t o. record { cache = h .cache; tags = placed-long (f .places) t o ∙ h .tags; pages = h .pages };
-          fill = λ x q o r e live. let s = applied-single q (f .stu) (payloadIn bytes) (f .cache) (h .cache .slots) (h .cache .single) in record { cache = record { slots = s .0; single = s .1 }; tags = placed-long (f .places) (x .tag) o ∙ h .tags; pages = h .pages };
-          snoop = λ range i. record { cache = record { slots = span-long (f .stu) range (f .cache .slots) (h .cache .slots); single = span-single (f .stu) range (f .cache .slots) (h .cache .single) }; tags = snooped-long (f .places) (f .stu) range i ∙ h .tags; pages = h .pages };
+          fill = λ x q o r e live. let s = applied-single q (payloadIn bytes) (f .cache) (h .cache .slots) (h .cache .single) in record { cache = record { slots = s .0; single = s .1 }; tags = placed-long (f .places) (x .tag) o ∙ h .tags; pages = h .pages };
+          snoop = λ range i. record { cache = record { slots = span-long (f .stu) range (f .cache .slots) (h .cache .slots); single = span-single (f .stu) range (f .cache .slots) (h .cache .single) }; tags = snooped-long (f .places) range i ∙ h .tags; pages = h .pages };
           switchOn = λ allocation g. record { cache = h .cache; tags = h .tags; pages = closed-sound (switchedOn allocation) refl (leb-true allocation 512 (and-both (leb 1 allocation) (leb allocation 512) g .1)) };
           switchOff = record { cache = h .cache; tags = h .tags; pages = closed-sound switchedOff refl (lit≤ tt) };
           stop = record { cache = h .cache; tags = h .tags; pages = closed-sound stopped refl (lit≤ tt) };
@@ -102,7 +102,7 @@ pub record Came (f : Function) (c : Command) (bytes : List ℕ) (e : Entry) : Ty
   pub request : Tr
   pub held : heldAt (f .places) (completion .tag) ≡ Ask request
   pub live : isLive f request ≡ true
-  pub brought : Brought request (f .stu) (payloadIn bytes) e
+  pub brought : Brought request (payloadIn bytes) e
 
 module _ (f : Function) (c : Command) (bytes out : List ℕ) where
   abbrev after : List Entry
@@ -122,7 +122,7 @@ module _ (f : Function) (c : Command) (bytes out : List ℕ) where
             reset = inr (inl (empty-slot 0 i));
             enable = inr (inl (empty-slot (f .cache .hand) i));
             place = λ t o. inl refl;
-            fill = λ x q o r e live. ⊎-elim inl (λ s. inr (⊎-elim inl (λ b. inr (record { completion = x; comes = r; request = q; held = e; live = live; brought = b })) s)) (applied-slot q (f .stu) (payloadIn bytes) (f .cache) all i);
+            fill = λ x q o r e live. ⊎-elim inl (λ s. inr (⊎-elim inl (λ b. inr (record { completion = x; comes = r; request = q; held = e; live = live; brought = b })) s)) (applied-slot q (payloadIn bytes) (f .cache) all i);
             snoop = λ range itag. rw (span-slot (f .stu) range (f .cache .slots) i) (byCases (touches (f .stu) range (slotAt (f .cache .slots) i)) (λ u. rw u (inr (inl refl))) (λ u. rw u (inl refl)));
             switchOn = λ allocation g. inl refl;
             switchOff = inl refl;

@@ -156,7 +156,7 @@ requesting-numbers f q out Stopped = search among
 completed-as : (f : Function) (c : Completion) (load : List ℕ) (outcome : Outcome) (o : Open) → Among (7 ∷ 8 ∷ []) (completedFor f c load outcome o)
 unfolding translated settled untranslated fetched unfetched
 completed-as f c load outcome Free = search among
-completed-as f c load (Data words) (Ask q) = part (judged q (f .stu) (f .rcb) (c .count) (c .lower) load)
+completed-as f c load (Data words) (Ask q) = part (judged q (f .rcb) (c .count) (c .lower) load)
   where
     part : (p : Part) → Among (7 ∷ 8 ∷ []) (translatedAs f (c .tag) q (c .count) load p)
     part Misfit = search among

@@ -68,9 +68,9 @@ pub record Stable (f : Function) (c : Command) (bytes : List ℕ) (P : Cache →
   -- a tag opened, freed, or open for less
   pub place : (t : Tag) (o : Open) → P (f .cache) (placed (f .places) t o) (f .pages)
   -- a completion for a Translation Request that is live
-  pub fill : (x : Completion) (q : Request) (o : Open) → Completing c bytes x → heldAt (f .places) (x .tag) ≡ Ask q → isLive f q ≡ true → P (applied q (f .stu) (payloadIn bytes) (f .cache)) (placed (f .places) (x .tag) o) (f .pages)
+  pub fill : (x : Completion) (q : Request) (o : Open) → Completing c bytes x → heldAt (f .places) (x .tag) ≡ Ask q → isLive f q ≡ true → P (applied q (payloadIn bytes) (f .cache)) (placed (f .places) (x .tag) o) (f .pages)
   -- an Invalidate Request
-  pub snoop : (range : Range) (i : ITag) → P (cut (f .cache) (f .stu) range) (snooped (f .stu) range i (f .places)) (f .pages)
+  pub snoop : (range : Range) (i : ITag) → P (cut (f .cache) (f .stu) range) (snooped range i (f .places)) (f .pages)
   -- the page interface on, off, stopped, a request more and a group answered
   pub switchOn : (allocation : ℕ) → isGranted allocation ≡ true → P (f .cache) (f .places) (switchedOn allocation)
   pub switchOff : P (f .cache) (f .places) switchedOff

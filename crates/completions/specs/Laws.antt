@@ -31,14 +31,14 @@ use Rattle.completions.specs.Completions.{completedFor, completed}
 module _ (f : Function) (c : Completion) (load : List ℕ) where
   -- what holds of the tables, whatever the tag is open for then and with the translations of a live request applied, holds after a completion
   pub completed-keeps : (P : Cache → List Place → Pages → Type 0) → ((o : Open) → P (f .cache) (placed (f .places) (c .tag) o) (f .pages))
-      → ((q : Tr) (o : Open) → heldAt (f .places) (c .tag) ≡ Ask q → isLive f q ≡ true → P (applied q (f .stu) load (f .cache)) (placed (f .places) (c .tag) o) (f .pages))
+      → ((q : Tr) (o : Open) → heldAt (f .places) (c .tag) ≡ Ask q → isLive f q ≡ true → P (applied q load (f .cache)) (placed (f .places) (c .tag) o) (f .pages))
       → Does (λ d. P (d .state .cache) (d .state .places) (d .state .pages)) (completed f c load)
   unfolding completed translated settled untranslated fetched unfetched
   completed-keeps P place fill = go (c .outcome) (heldAt (f .places) (c .tag)) refl
     where
       go : (outcome : Outcome) (o : Open) → heldAt (f .places) (c .tag) ≡ o → Does (λ d. P (d .state .cache) (d .state .places) (d .state .pages)) (completedFor f c load outcome o)
       go outcome Free e = search does
-      go (Data words) (Ask q) e = part (judged q (f .stu) (f .rcb) (c .count) (c .lower) load)
+      go (Data words) (Ask q) e = part (judged q (f .rcb) (c .count) (c .lower) load)
         where
           part : (p : Part) → Does (λ d. P (d .state .cache) (d .state .places) (d .state .pages)) (translatedAs f (c .tag) q (c .count) load p)
           part Misfit = search does

@@ -33,7 +33,7 @@ isLive f q = f .enabled && not (q .stale)
 unfoldable pub settled : Function → Tag → Tr → List ℕ → Open → Word → Said Deed
 settled f t q load o w =
     cond (isLive f q)
-    (plainly (withTables f (applied q (f .stu) load (f .cache)) (placed (f .places) t o)) w)
+    (plainly (withTables f (applied q load (f .cache)) (placed (f .places) t o)) w)
     (plainly (withPlace f t o) discarded)
 
 -- the only packet off the boundary is discarded unread; "more" after a first of two, "filled" at the end
@@ -44,4 +44,4 @@ translatedAs f t q count load First = settled f t q load (Ask (afterFirst q coun
 translatedAs f t q count load Last = settled f t q load Free filled
 
 unfoldable pub translated : Function → Tag → Tr → ℕ → ℕ → List ℕ → Said Deed
-translated f t q count lower load = translatedAs f t q count load (judged q (f .stu) (f .rcb) count lower load)
+translated f t q count lower load = translatedAs f t q count load (judged q (f .rcb) count lower load)

@@ -99,10 +99,10 @@ fn is_live(enabled: bool, stale: bool) -> bool
 
 // The entries that a completion makes.
 fn fill(mut f: Function, q: Tr, load: &[u8]) -> Function
-    ensures { λ r. ⌜ r ≡ withTables f (applied q (f .stu) (now (load .entry)) (f .cache)) (f .places) ⌝ }
+    ensures { λ r. ⌜ r ≡ withTables f (applied q (now (load .entry)) (f .cache)) (f .places) ⌝ }
 {
     let cache = f.cache;
-    let next = replies::apply(cache, q, f.stu, load);
+    let next = replies::apply(cache, q, load);
     f.cache = next;
     f
 }
@@ -134,7 +134,7 @@ fn take_translations(f: Function, t: Tag, q: Tr, count: u16, lower: u8, load: &[
     ensures { λ e. ⌜ told e [] ≡ ended f [] (translated f t q count lower (now (load .entry))) ⌝ }
 {
     let rcb = f.rcb;
-    let part = replies::judge(q, f.stu, rcb, count, lower, load);
+    let part = replies::judge(q, rcb, count, lower, load);
     match part {
         Part::Misfit => state::refused(f, Refusal::Misfit),
         Part::Off => state::answered(free(f, t), Answer::Discarded),

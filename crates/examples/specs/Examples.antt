@@ -177,7 +177,7 @@ examples =
     ∷ reads filled 0x203000 is gives (record { address = 0x4000_3000; translated = true })
     ∷ says filled (Access (record { way = ToRead; address = 0x204000; words = 1 })) [] is number 13
     -- 5: the second of two units makes the request stale
-    ∷ heldAt (snooped .places) (record { 0 = 0 }) is Held (record { address = 0x0FFF_FFFF_C000; further = 1; stale = true; size = 0; whole = 0; due = 0 })
+    ∷ heldAt (snooped .places) (record { 0 = 0 }) is Held (record { address = 0x0FFF_FFFF_C000; further = 1; stu = 2; stale = true; size = 0; whole = 0; due = 0 })
     -- 6: lines 1 and 2 of the listing
     ∷ reading (four 0x0000_0402 ++ four 0x0100_05FF ++ four 0x0020_3000) is gives (record { head = record { tc = 0; sender = 0x0100 }; body = Tr (record { tag = record { 0 = 5 }; words = 2; address = 0x203000; nowrite = false }) })
     ∷ reading (four 0x3200_0000 ++ four 0x0100_0002 ++ four 0x0008_0001 ++ four 0x8000_0001) is gives (record { head = record { tc = 0; sender = 0x0100 }; body = Ic (record { device = 0x0008; cc = 1; vector = 0x8000_0001 }) })

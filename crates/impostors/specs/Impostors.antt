@@ -115,7 +115,7 @@ marking mark f c = let r = honest f c in by (brings c) r (withState r (withTable
 -- it leaves Translation Requests live
 abbrev revived : Open → Open
 revived Free = Free
-revived (Asking q) = Asking (record { address = q .address; further = q .further; stale = false; size = q .size; whole = q .whole; due = q .due })
+revived (Asking q) = Asking (record { address = q .address; further = q .further; stu = q .stu; stale = false; size = q .size; whole = q .whole; due = q .due })
 revived (Reading x) = Reading x
 
 abbrev lively : Function → Call → Result

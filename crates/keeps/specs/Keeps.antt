@@ -103,7 +103,7 @@ fresh-ok id stu rcb h =
     }
 
 fresh-blank : (id stu : ℕ) (rcb : Rcb) → Blank (view (fresh id stu rcb))
-fresh-blank id stu rcb = record { opens = λ t. ap (pendingOf stu) (empty-held (tag t)); waiting = λ i. refl }
+fresh-blank id stu rcb = record { opens = λ t. ap pendingOf (empty-held (tag t)); waiting = λ i. refl }
 
 -- ---- every run
 

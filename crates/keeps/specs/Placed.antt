@@ -33,7 +33,7 @@ module _ (me : Noted) (f : Function) (o : Ok me f) (t : Tag) (own : isTag t ≡ 
   pub at-other : (u : Tag) → eqb (u .0) (t .0) ≡ false → heldAt (placed (f .places) t after) u ≡ heldAt (f .places) u
   at-other u e = at-tag u ∙ rw e refl
 
-  pub left-ok : (enabled : Bool) (cache : Cache) → length (cache .slots) ≡ 32 → ((j : ℕ) → slotAt (cache .slots) j .to < 18446744073709551616) → ((q : Tr) → after ≡ Ask q → q .due ≡ 0 → q .whole ≡ 0)
+  pub left-ok : (enabled : Bool) (cache : Cache) → length (cache .slots) ≡ 32 → ((j : ℕ) → slotAt (cache .slots) j .to < 18446744073709551616) → ((q : Tr) → after ≡ Ask q → (q .stu ≡ f .stu) × (q .due ≡ 0 → q .whole ≡ 0))
       → ((i : ITag) → isIn (noteOf after) i ≡ true → isIn (f .waiting) i ≡ true) → Ok me (left f t enabled cache after)
   left-ok enabled cache slots reached begins notes =
       record {

@@ -57,8 +57,8 @@ use Rattle.lemmas.specs.Bools.{no-tf, no-some}
 use Rattle.demand.specs.Demand.{CPL, leaves, isOpen}
 use Rattle.demand.specs.Laws.{Step, fills}
 use Rattle.tlp.specs.Words.{areBytes}
-use Rattle.keeps.specs.Demands.{Cached, Reply, terms, isTyped, Call, Noted, outcomeTaken, bodyTaken, heldIn}
-use Rattle.keeps.specs.Views.{pendingOf, liveOf, view, Ok, Good, good-plain, quiet, no-entry}
+use Rattle.keeps.specs.Demands.{isReplied, Cached, Reply, terms, isTyped, Call, Noted, outcomeTaken, bodyTaken, heldIn}
+use Rattle.keeps.specs.Views.{askedBy, pendingOf, liveOf, view, Ok, Good, good-plain, quiet, no-entry}
 use Rattle.keeps.specs.Sends.{same-ok}
 use Rattle.keeps.specs.Placed.{left, left-ok}
 use Rattle.keeps.specs.Snoops.{held-entry, gone-ok, gone-step}
@@ -93,16 +93,16 @@ module _ (me : Noted) (f : Function) (o : Ok me f) (bytes out : List ℕ) (ty : 
       own = held-tag (f .places) t used
 
       -- the cache stays
-      same-cache : (d : Option Reply) → outcomeTaken (t .0) (c .count) load (c .outcome) ≡ some (CPL (t .0) d) → (enabled : Bool) (after : Open) (w : Word) → pendingOf (f .stu) after ≡ leaves d (pendingOf (f .stu) b) → (liveOf after ≡ true → liveOf b ≡ true)
-          → ((q : Tr) → after ≡ Ask q → q .due ≡ 0 → q .whole ≡ 0) → ((i : ITag) → isIn (noteOf after) i ≡ (isOpen (leaves {T = terms} d (pendingOf (f .stu) b)) && isIn (noteOf b) i))
+      same-cache : (d : Option Reply) → outcomeTaken (t .0) (c .count) load (c .outcome) ≡ some (CPL (t .0) d) → (enabled : Bool) (after : Open) (w : Word) → pendingOf after ≡ leaves d (pendingOf b) → (liveOf after ≡ true → liveOf b ≡ true)
+          → ((q : Tr) → after ≡ Ask q → (q .stu ≡ f .stu) × (q .due ≡ 0 → q .whole ≡ 0)) → ((i : ITag) → isIn (noteOf after) i ≡ (isOpen (leaves {T = terms} d (pendingOf b)) && isIn (noteOf b) i))
           → Does (Good me f receive-call) (plainly (left f t enabled (f .cache) after) w)
       same-cache d given enabled after w opened lived begins notes =
           plain (Cpl c) is _ w
-          (left-ok me f o t own after enabled (f .cache) (o .slots) (o .reached) begins (λ i h. o .noted t i (ap (λ (x : Open). isIn (noteOf x) i) holds ∙ and-both (isOpen (leaves {T = terms} d (pendingOf (f .stu) b))) _ (sym (notes i) ∙ h) .1)))
+          (left-ok me f o t own after enabled (f .cache) (o .slots) (o .reached) begins (λ i h. o .noted t i (ap (λ (x : Open). isIn (noteOf x) i) holds ∙ and-both (isOpen (leaves {T = terms} d (pendingOf b))) _ (sym (notes i) ∙ h) .1)))
           (rw (mine, given) (left-step me f o t own b holds enabled (f .cache) after d opened lived notes (λ j x h. inl h)))
 
       -- the tag is freed
-      frees : (d : Option Reply) → outcomeTaken (t .0) (c .count) load (c .outcome) ≡ some (CPL (t .0) d) → (enabled : Bool) (w : Word) → leaves {T = terms} d (pendingOf (f .stu) b) ≡ none → Does (Good me f receive-call) (plainly (left f t enabled (f .cache) Free) w)
+      frees : (d : Option Reply) → outcomeTaken (t .0) (c .count) load (c .outcome) ≡ some (CPL (t .0) d) → (enabled : Bool) (w : Word) → leaves {T = terms} d (pendingOf b) ≡ none → Does (Good me f receive-call) (plainly (left f t enabled (f .cache) Free) w)
       frees d given enabled w closed =
           same-cache d given enabled Free w (sym closed) (λ l. no-tf (sym l)) (λ q h. let z : _≡_ {A = ℕ} 0 1 = cc in absurd (omega arith))
           (λ i. in-none i ∙ sym (ap (λ (x : Option _). isOpen x && isIn (noteOf b) i) closed))
@@ -140,22 +140,22 @@ module _ (me : Noted) (f : Function) (o : Ok me f) (bytes out : List ℕ) (ty : 
       reply = record { count = c .count; load = load }
 
       abbrev filled-cache : Cache
-      filled-cache = applied q (f .stu) load (f .cache)
+      filled-cache = applied q load (f .cache)
 
       filled-long : length (filled-cache .slots) ≡ 32
-      filled-long = applied-keeps q (f .stu) load (λ d. length (d .slots) ≡ 32) (f .cache) (o .slots) (λ x d b k. fill-long x d k) (λ unit d b k. unit-long unit d k)
+      filled-long = applied-keeps q load (λ d. length (d .slots) ≡ 32) (f .cache) (o .slots) (λ x d b k. fill-long x d k) (λ unit d b k. unit-long unit d k)
 
       filled-reached : (j : ℕ) → slotAt (filled-cache .slots) j .to < 18446744073709551616
-      filled-reached j = ⊎-elim (λ s. rw s (o .reached j)) (⊎-elim (λ s. rw s (lit≤ tt)) (λ b. brought-to q (f .stu) load _ all-bytes b)) (applied-slot q (f .stu) load (f .cache) (o .slots) j)
+      filled-reached j = ⊎-elim (λ s. rw s (o .reached j)) (⊎-elim (λ s. rw s (lit≤ tt)) (λ b. brought-to q load _ all-bytes b)) (applied-slot q load (f .cache) (o .slots) j)
 
       -- with the translations of a live request applied
-      fills-cache : outcomeTaken (t .0) (c .count) load (c .outcome) ≡ some (CPL (t .0) (some reply)) → isLive f q ≡ true → fits q (f .stu) load ≡ true → (after : Open) (w : Word) → pendingOf (f .stu) after ≡ leaves (some reply) (pendingOf (f .stu) (Ask q))
-          → (liveOf after ≡ true → liveOf (Ask q) ≡ true) → ((q : Tr) → after ≡ Ask q → q .due ≡ 0 → q .whole ≡ 0) → ((i : ITag) → isIn (noteOf after) i ≡ false)
+      fills-cache : outcomeTaken (t .0) (c .count) load (c .outcome) ≡ some (CPL (t .0) (some reply)) → isLive f q ≡ true → fits q load ≡ true → (after : Open) (w : Word) → pendingOf after ≡ leaves (some reply) (pendingOf (Ask q))
+          → (liveOf after ≡ true → liveOf (Ask q) ≡ true) → ((q : Tr) → after ≡ Ask q → (q .stu ≡ f .stu) × (q .due ≡ 0 → q .whole ≡ 0)) → ((i : ITag) → isIn (noteOf after) i ≡ false)
           → Does (Good me f receive-call) (plainly (left f t (f .enabled) filled-cache after) w)
       fills-cache given live fit after w opened lived begins notes =
           plain (Cpl c) is _ w
           (left-ok me f o t (own (Ask q) holds asks-used) after (f .enabled) filled-cache filled-long filled-reached begins (λ i h. absurd (never-both _ h (notes i))))
-          (rw (mine, given) (left-step me f o t (own (Ask q) holds asks-used) (Ask q) holds (f .enabled) filled-cache after (some reply) opened lived (λ i. notes i ∙ sym (ap (λ (b : Bool). isOpen (leaves {T = terms} (some reply) (pendingOf (f .stu) (Ask q))) && b) (in-none i) ∙ and-false (isOpen (leaves {T = terms} (some reply) (pendingOf (f .stu) (Ask q)))))) slots))
+          (rw (mine, given) (left-step me f o t (own (Ask q) holds asks-used) (Ask q) holds (f .enabled) filled-cache after (some reply) opened lived (λ i. notes i ∙ sym (ap (λ (b : Bool). isOpen (leaves {T = terms} (some reply) (pendingOf (Ask q))) && b) (in-none i) ∙ and-false (isOpen (leaves {T = terms} (some reply) (pendingOf (Ask q)))))) slots))
         where
           slots : (j : ℕ) (y : Cached) → cond {A = Option Cached} (slotAt (filled-cache .slots) j .used) (some (record { stu = f .stu; entry = slotAt (filled-cache .slots) j })) none ≡ some y
               → (heldIn f j ≡ some y) ⊎ (fills (view f) (some (CPL (t .0) (some reply))) y ≡ true)
@@ -164,33 +164,33 @@ module _ (me : Noted) (f : Function) (o : Ok me f) (bytes out : List ℕ) (ty : 
               (λ s. inl (sym (ap (λ (x : Entry). cond {A = Option Cached} (x .used) (some (record { stu = f .stu; entry = x })) none) s) ∙ h))
               (⊎-elim
               (λ s. no-some (sym (no-entry (f .stu) (slotAt (filled-cache .slots) j) s) ∙ h))
-              (λ b. inr (rw (holds, and-both (f .enabled) _ live .1, ← held-entry (f .stu) (slotAt (filled-cache .slots) j) y h .1) (brought-replied q (f .stu) load fit (slotAt (filled-cache .slots) j) b (c .count)))))
-              (applied-slot q (f .stu) load (f .cache) (o .slots) j)
+              (λ b. inr (rw (holds, and-both (f .enabled) _ live .1, ← held-entry (f .stu) (slotAt (filled-cache .slots) j) y h .1) (ap (λ (s : ℕ). isReplied (askedBy q) (q .whole - q .due) reply (record { stu = s; entry = slotAt (filled-cache .slots) j })) (sym (o .begun t q holds .0)) ∙ brought-replied q load fit (slotAt (filled-cache .slots) j) b (c .count)))))
+              (applied-slot q load (f .cache) (o .slots) j)
 
       -- a first packet of two leaves the rest due; the last, and the only one, leave nothing
-      for-part : outcomeTaken (t .0) (c .count) load (c .outcome) ≡ some (CPL (t .0) (some reply)) → (x : Part) → judged q (f .stu) (f .rcb) (c .count) (c .lower) load ≡ x → Does (Good me f receive-call) (translatedAs f t q (c .count) load x)
+      for-part : outcomeTaken (t .0) (c .count) load (c .outcome) ≡ some (CPL (t .0) (some reply)) → (x : Part) → judged q (f .rcb) (c .count) (c .lower) load ≡ x → Does (Good me f receive-call) (translatedAs f t q (c .count) load x)
       unfolding settled
       for-part given Misfit j = does-number _ 8
-      for-part given Off j = frees (Ask q) holds asks-used (some reply) given (f .enabled) _ (rw (eq-eqb (c .count) (length load) (off-whole q (f .stu) (f .rcb) (c .count) (c .lower) load j)))
+      for-part given Off j = frees (Ask q) holds asks-used (some reply) given (f .enabled) _ (rw (eq-eqb (c .count) (length load) (off-whole q (f .rcb) (c .count) (c .lower) load j)))
       for-part given Last j =
-          let whole = eq-eqb (c .count) (length load) (last-whole q (f .stu) (f .rcb) (c .count) (c .lower) load j) in
+          let whole = eq-eqb (c .count) (length load) (last-whole q (f .rcb) (c .count) (c .lower) load j) in
           does-case _ (isLive f q) _ _
-          (λ live. fills-cache given live (last-fits q (f .stu) (f .rcb) (c .count) (c .lower) load j) Free _ (rw whole) (λ l. no-tf (sym l)) (λ p h. let z : _≡_ {A = ℕ} 0 1 = cc in absurd (omega arith)) in-none)
+          (λ live. fills-cache given live (last-fits q (f .rcb) (c .count) (c .lower) load j) Free _ (rw whole) (λ l. no-tf (sym l)) (λ p h. let z : _≡_ {A = ℕ} 0 1 = cc in absurd (omega arith)) in-none)
           (λ dead. frees (Ask q) holds asks-used (some reply) given (f .enabled) _ (rw whole))
       for-part given First j =
-          let b = first-begins q (f .stu) (f .rcb) (c .count) (c .lower) load j in
+          let b = first-begins q (f .rcb) (c .count) (c .lower) load j in
           let half : eqb (c .count) (length load) ≡ false = ne-eqb (c .count) (length load) (b .1 .1) in
-          let none-before : q .whole ≡ 0 = o .begun t q holds (b .0) in
+          let none-before : q .whole ≡ 0 = o .begun t q holds .1 (b .0) in
           let so-far : c .count - (c .count - length load) ≡ q .whole - q .due + length load = omega (arith, b .1 .0, none-before) in
-          let same-range : rangeOf (afterFirst q (c .count) load) (f .stu) ≡ rangeOf q (f .stu) = range-run (afterFirst q (c .count) load) (f .stu) ∙ sym (range-run q (f .stu)) in
-          let begins : (p : Tr) → Ask (afterFirst q (c .count) load) ≡ Ask p → p .due ≡ 0 → p .whole ≡ 0 = λ p h d. let same : c .count - length load ≡ p .due = cc in absurd (b .1 .1 (omega (arith, b .1 .0, same, d))) in
+          let same-range : rangeOf (afterFirst q (c .count) load) ≡ rangeOf q = range-run (afterFirst q (c .count) load) ∙ sym (range-run q) in
+          let begins : (p : Tr) → Ask (afterFirst q (c .count) load) ≡ Ask p → (p .stu ≡ f .stu) × (p .due ≡ 0 → p .whole ≡ 0) = λ p h. (let unit : q .stu ≡ p .stu = cc in sym unit ∙ o .begun t q holds .0, λ d. let same : c .count - length load ≡ p .due = cc in absurd (b .1 .1 (omega (arith, b .1 .0, same, d)))) in
           does-case _ (isLive f q) _ _
-          (λ live. fills-cache given live (first-fits q (f .stu) (f .rcb) (c .count) (c .lower) load j) (Ask (afterFirst q (c .count) load)) _ (rw (half, so-far, same-range)) (λ l. l) begins in-none)
+          (λ live. fills-cache given live (first-fits q (f .rcb) (c .count) (c .lower) load j) (Ask (afterFirst q (c .count) load)) _ (rw (half, so-far, same-range)) (λ l. l) begins in-none)
           (λ dead. same-cache (Ask q) holds asks-used (some reply) given (f .enabled) (Ask (afterFirst q (c .count) load)) _ (rw (half, so-far, same-range)) (λ l. l) begins (λ i. rw (half, in-none i)))
 
       for-ask : (x : Outcome) → c .outcome ≡ x → Does (Good me f receive-call) (completedFor f c load x (Ask q))
       unfolding translated untranslated
-      for-ask (Data words) x = for-part (rw x refl) (judged q (f .stu) (f .rcb) (c .count) (c .lower) load) refl
+      for-ask (Data words) x = for-part (rw x refl) (judged q (f .rcb) (c .count) (c .lower) load) refl
       for-ask (Status status) x =
           does-case _ (eqb status 0) _ _ (λ z. does-number _ 8)
           (λ z. does-case _ (eqb status 4) _ _

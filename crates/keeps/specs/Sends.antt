@@ -119,7 +119,7 @@ module _ (me : Noted) (f : Function) (o : Ok me f) (bytes out : List ℕ) (octet
         known = o .known;
       })
       (record {
-        opens = λ t. ap (pendingOf (f .stu)) (staled-held (f .places) (tag t)) ∙ stale-pending (f .stu) (heldAt (f .places) (tag t));
+        opens = λ t. ap pendingOf (staled-held (f .places) (tag t)) ∙ stale-pending (heldAt (f .places) (tag t));
         unused = λ t e. no-tf (sym e);
         live = λ t l. inl (stale-live (heldAt (f .places) (tag t)) (sym (ap liveOf (staled-held (f .places) (tag t))) ∙ l));
         through = λ b k e. no-some e;
@@ -134,28 +134,29 @@ module _ (me : Noted) (f : Function) (o : Ok me f) (bytes out : List ℕ) (octet
         stale = λ i a p. no-some p;
       }))
     where
-      old : (t : Tag) (q : Tr) (x : Open) → heldAt (f .places) t ≡ x → staled x ≡ Ask q → q .due ≡ 0 → q .whole ≡ 0
-      old t q Free h e d = let z : _≡_ {A = ℕ} 0 1 = cc in absurd (omega arith)
-      old t q (Ask p) h e d =
+      old : (t : Tag) (q : Tr) (x : Open) → heldAt (f .places) t ≡ x → staled x ≡ Ask q → (q .stu ≡ f .stu) × (q .due ≡ 0 → q .whole ≡ 0)
+      old t q Free h e = let z : _≡_ {A = ℕ} 0 1 = cc in absurd (omega arith)
+      old t q (Ask p) h e =
           let w : p .whole ≡ q .whole = cc in
           let v : p .due ≡ q .due = cc in
-          sym w ∙ o .begun t p h (v ∙ d)
-      old t q (Read r) h e d = let z : _≡_ {A = ℕ} 0 1 = cc in absurd (omega arith)
+          let unit : p .stu ≡ q .stu = cc in
+          (sym unit ∙ o .begun t p h .0, λ d. sym w ∙ o .begun t p h .1 (v ∙ d))
+      old t q (Read r) h e = let z : _≡_ {A = ℕ} 0 1 = cc in absurd (omega arith)
 
 -- ---- a tag opened
 
 module _ (me : Noted) (f : Function) (o : Ok me f) (t : Tag) (own : isTag t ≡ true) (b : Open) where
-  opened-ok : ((q : Tr) → b ≡ Ask q → q .due ≡ 0 → q .whole ≡ 0) → ((i : ITag) → isIn (noteOf b) i ≡ false) → Ok me (withPlace f t b)
+  opened-ok : ((q : Tr) → b ≡ Ask q → (q .stu ≡ f .stu) × (q .due ≡ 0 → q .whole ≡ 0)) → ((i : ITag) → isIn (noteOf b) i ≡ false) → Ok me (withPlace f t b)
   opened-ok begins notes = left-ok me f o t own b (f .enabled) (f .cache) (o .slots) (o .reached) begins (λ i e. absurd (never-both _ e (notes i)))
 
   -- a request goes out on a tag that was free
-  pub open-step : heldAt (f .places) t ≡ Free → (x : Sent terms) → ((u : ℕ) → uses u (some x) ≡ eqb u (t .0)) → ((u : ℕ) (p : Option (Pending terms)) → onSent u (some x) p ≡ cond (eqb u (t .0)) (pendingOf (f .stu) b) p)
+  pub open-step : heldAt (f .places) t ≡ Free → (x : Sent terms) → ((u : ℕ) → uses u (some x) ≡ eqb u (t .0)) → ((u : ℕ) (p : Option (Pending terms)) → onSent u (some x) p ≡ cond (eqb u (t .0)) (pendingOf b) p)
       → ((i : Ticket) → completes i (some x) ≡ false) → ((i : ITag) → isIn (noteOf b) i ≡ false) → ((w : Wanted) (k : ℕ) → reaches (some x) ≡ some (w, k) → Through (view f) w k) → Step 32 (view f) (view (withPlace f t b)) (record { took = none; sent = some x })
   open-step free x used opened carries unnoted served =
       record {
-        opens = λ u. byCases (eqb u (t .0)) (λ e. ap (pendingOf (f .stu)) (at-own me f o t own b (tag u) e) ∙ sym (opened u (pendingOf (f .stu) (heldAt (f .places) (tag u))) ∙ rw e refl))
-            (λ e. ap (pendingOf (f .stu)) (at-other me f o t own b (tag u) e) ∙ sym (opened u (pendingOf (f .stu) (heldAt (f .places) (tag u))) ∙ rw e refl));
-        unused = λ u e. let same = eqb-true u (t .0) (sym (used u) ∙ e) in rw same (ltb-true (t .0) 32 own, ap (pendingOf (f .stu)) free);
+        opens = λ u. byCases (eqb u (t .0)) (λ e. ap pendingOf (at-own me f o t own b (tag u) e) ∙ sym (opened u (pendingOf (heldAt (f .places) (tag u))) ∙ rw e refl))
+            (λ e. ap pendingOf (at-other me f o t own b (tag u) e) ∙ sym (opened u (pendingOf (heldAt (f .places) (tag u))) ∙ rw e refl));
+        unused = λ u e. let same = eqb-true u (t .0) (sym (used u) ∙ e) in rw same (ltb-true (t .0) 32 own, ap pendingOf free);
         live = λ u l. byCases (eqb u (t .0)) (λ e. inr (used u ∙ e)) (λ e. inl (sym (ap liveOf (at-other me f o t own b (tag u) e)) ∙ l));
         slots = λ j e h. inl h;
         through = served;
@@ -178,7 +179,7 @@ module _ (me : Noted) (f : Function) (o : Ok me f) (a : Asking) (bytes out : Lis
   ask-call = record { command = Asks a; bytes = bytes; out = out; typed = ty; octets = octets }
 
   abbrev new-request : Tr
-  new-request = record { address = a .address; further = a .units - 1; stale = false; size = 0; whole = 0; due = 0 }
+  new-request = record { address = a .address; further = a .units - 1; stu = f .stu; stale = false; size = 0; whole = 0; due = 0 }
 
   asks-units : (units : ℕ) → 1 ≤ units → dwordsOf (2 * units) / 2 - 1 ≡ units - 1
   asks-units units h = rw (ne-eqb (2 * units) 0 (omega arith)) (omega arith)
@@ -190,14 +191,14 @@ module _ (me : Noted) (f : Function) (o : Ok me f) (a : Asking) (bytes out : Lis
       (λ on. does-case _ (isAskable (f .rcb) (f .stu) a) _ _
       (λ few. does-case _ (isTag (freeTag (f .places))) _ _
       (λ own. let t = freeTag (f .places) in
-      let b = asked (a .address) (a .units - 1) in
+      let b = asked (a .address) (a .units - 1) (f .stu) in
       let n = few-units (f .rcb) (f .stu) a few in
       good-send me f ask-call _ _ (requestOf (f .id) t a) []
       (typed-request (headOf (f .id)) (o .id) _ (omega (arith, ltb-true (t .0) 32 own)) (omega (arith, ltb-true (a .address) (2 ^ 64) ty))) (own-packet me (requestOf (f .id) t a) (o .own) refl refl)
-      (opened-ok me f o t own b (λ q e d. let z : 0 ≡ q .whole = cc in sym z) in-none) (λ i. refl)
+      (opened-ok me f o t own b (λ q e. (let unit : f .stu ≡ q .stu = cc in sym unit, λ d. let z : 0 ≡ q .whole = cc in sym z)) in-none) (λ i. refl)
       (rw (asks-units (a .units) (n .0), run-low-bits (a .address) (a .units - 1) (me .stu), ← o .unit)
       (open-step me f o t own b (free-tag (f .places) (o .tags) own) (TR (t .0) (record { stu = f .stu; range = runOf (a .address) (a .units - 1) (f .stu) })) (λ u. refl)
-      (λ u p. ap (λ (r : Range). cond {A = Option (Pending terms)} (eqb u (t .0)) (some (translation (record { stu = f .stu; range = r }) 0)) p) (sym (range-run new-request (f .stu)))) (λ i. refl) in-none (λ w k e. no-some e))))
+      (λ u p. ap (λ (r : Range). cond {A = Option (Pending terms)} (eqb u (t .0)) (some (translation (record { stu = f .stu; range = r }) 0)) p) (sym (range-run new-request))) (λ i. refl) in-none (λ w k e. no-some e))))
       (λ e. does-number _ 11))
       (λ e. does-number _ 12))
       (λ e. does-number _ 6)
@@ -273,7 +274,7 @@ module _ (me : Noted) (f : Function) (o : Ok me f) (a : Accessing) (bytes out : 
       let b = fetching (a .address) (4 * a .words) (at .translated) in
       good-send me f access-call _ _ (memoryOf (f .id) (Fetches t) (a .words) at) bytes
       (typed-access (headOf (f .id)) (o .id) _ (omega (arith, ltb-true (t .0) 32 own)) (g .inside)) (own-packet me (memoryOf (f .id) (Fetches t) (a .words) at) (o .own) refl refl)
-      (opened-ok me f o t own b (λ q e d. let z : _≡_ {A = ℕ} 0 1 = cc in absurd (omega arith)) in-none) (λ i. refl)
+      (opened-ok me f o t own b (λ q e. let z : _≡_ {A = ℕ} 0 1 = cc in absurd (omega arith)) in-none) (λ i. refl)
       (rw (is, ne-eqb (a .words) 0 (omega (arith, g .least)))
       (open-step me f o t own b (free-tag (f .places) (o .tags) own) (READ (t .0) (at .translated) (record { address = some (a .address); bytes = 4 * a .words }) (at .address)) (λ u. refl) (λ u p. refl) (λ i. refl) in-none
       (λ w k e. served ToRead is at g (4 * a .words) w k (rw is e)))))

@@ -61,8 +61,8 @@ module _ (me : Noted) (f : Function) (o : Ok me f) (from : ℕ) (i : InvalidateR
   abbrev its : Ticket
   its = record { agent = from; number = place (i .itag) }
 
-  at-tag : (t : Tag) → heldAt (gone .places) t ≡ snoopOf (f .stu) range (i .itag) (heldAt (f .places) t)
-  at-tag t = snooped-held (f .stu) range (i .itag) (f .places) t
+  at-tag : (t : Tag) → heldAt (gone .places) t ≡ snoopOf range (i .itag) (heldAt (f .places) t)
+  at-tag t = snooped-held range (i .itag) (f .places) t
 
   slot-is : (j : ℕ) → slotAt (gone .cache .slots) j ≡ cond (touches (f .stu) range (slotAt (f .cache .slots) j)) nothing (slotAt (f .cache .slots) j)
   slot-is j = span-slot (f .stu) range (f .cache .slots) j
@@ -74,15 +74,16 @@ module _ (me : Noted) (f : Function) (o : Ok me f) (from : ℕ) (i : InvalidateR
   slot-left j u = slot-is j ∙ rw u refl
 
   -- a marked Translation Request has come as far as it had
-  marked-begun : (t : Tag) (q : Tr) (x : Open) → heldAt (f .places) t ≡ x → snoopOf (f .stu) range (i .itag) x ≡ Ask q → q .due ≡ 0 → q .whole ≡ 0
-  marked-begun t q x h e d = byCases (concerns (f .stu) range x) (λ u. mark x h (rw u at e)) (λ u. o .begun t q (h ∙ (rw u at e)) d)
+  marked-begun : (t : Tag) (q : Tr) (x : Open) → heldAt (f .places) t ≡ x → snoopOf range (i .itag) x ≡ Ask q → (q .stu ≡ f .stu) × (q .due ≡ 0 → q .whole ≡ 0)
+  marked-begun t q x h e = byCases (concerns range x) (λ u. mark x h (rw u at e)) (λ u. o .begun t q (h ∙ (rw u at e)))
     where
-      mark : (x : Open) → heldAt (f .places) t ≡ x → marked (i .itag) x ≡ Ask q → q .whole ≡ 0
+      mark : (x : Open) → heldAt (f .places) t ≡ x → marked (i .itag) x ≡ Ask q → (q .stu ≡ f .stu) × (q .due ≡ 0 → q .whole ≡ 0)
       mark Free h e = let z : _≡_ {A = ℕ} 0 1 = cc in absurd (omega arith)
       mark (Ask p) h e =
           let w : p .whole ≡ q .whole = cc in
           let v : p .due ≡ q .due = cc in
-          sym w ∙ o .begun t p h (v ∙ d)
+          let unit : p .stu ≡ q .stu = cc in
+          (sym unit ∙ o .begun t p h .0, λ d. sym w ∙ o .begun t p h .1 (v ∙ d))
       mark (Read r) h e = let z : _≡_ {A = ℕ} 0 1 = cc in absurd (omega arith)
 
   pub gone-ok : Ok me gone
@@ -94,11 +95,11 @@ module _ (me : Noted) (f : Function) (o : Ok me f) (from : ℕ) (i : InvalidateR
         agent = short;
         slots = span-long (f .stu) range (f .cache .slots) (o .slots);
         reached = λ j. rw (slot-is j) (byCases (touches (f .stu) range (slotAt (f .cache .slots) j)) (λ u. rw u (lit≤ tt)) (λ u. rw u (o .reached j)));
-        tags = snooped-long (f .places) (f .stu) range (i .itag) ∙ o .tags;
+        tags = snooped-long (f .places) range (i .itag) ∙ o .tags;
         begun = λ t q h. marked-begun t q (heldAt (f .places) t) refl (sym (at-tag t) ∙ h);
         vector = joined-lt (f .waiting) (i .itag) (o .vector);
         noted = λ t k h. in-joined (f .waiting) (i .itag) k ∙ still (isIn (noteOf (heldAt (f .places) t)) k) (isIn (f .waiting) k) (eqb (place (i .itag)) (place k)) _ (λ e. o .noted t k e)
-            (sym (ap (λ (x : Open). isIn (noteOf x) k) (at-tag t) ∙ snoop-noted (f .stu) range (i .itag) (heldAt (f .places) t) k) ∙ h);
+            (sym (ap (λ (x : Open). isIn (noteOf x) k) (at-tag t) ∙ snoop-noted range (i .itag) (heldAt (f .places) t) k) ∙ h);
         known = λ k e u. let z : _≡_ {A = ℕ} 0 1 = cc in absurd (omega arith);
       }
     where
@@ -158,11 +159,11 @@ module _ (me : Noted) (f : Function) (o : Ok me f) (from : ℕ) (i : InvalidateR
 
   noted-then : (k : Ticket) (t : ℕ) → view gone .waiting k ≡ true
       → isIn (noteOf (heldAt (gone .places) (tag t))) (itag (k .number))
-      ≡ given (cond (same k its) (some range) none) (λ z. isOpen (readIn {T = terms} z (pendingOf (f .stu) (heldAt (f .places) (tag t))))) (isIn (noteOf (heldAt (f .places) (tag t))) (itag (k .number)))
+      ≡ given (cond (same k its) (some range) none) (λ z. isOpen (readIn {T = terms} z (pendingOf (heldAt (f .places) (tag t))))) (isIn (noteOf (heldAt (f .places) (tag t))) (itag (k .number)))
   noted-then k t w =
       let agent : eqb (k .agent) from ≡ true = and-both (eqb (k .agent) from) _ w .0 in
       let low : ltb (k .number) 32 ≡ true = and-both (ltb (k .number) 32) _ (and-both (eqb (k .agent) from) _ w .1) .0 in
-      ap (λ (x : Open). isIn (noteOf x) (itag (k .number))) (at-tag (tag t)) ∙ snoop-noted (f .stu) range (i .itag) (heldAt (f .places) (tag t)) (itag (k .number)) ∙ byCases (eqb (k .number) (place (i .itag)))
+      ap (λ (x : Open). isIn (noteOf x) (itag (k .number))) (at-tag (tag t)) ∙ snoop-noted range (i .itag) (heldAt (f .places) (tag t)) (itag (k .number)) ∙ byCases (eqb (k .number) (place (i .itag)))
       (λ e. let n = eqb-true (k .number) (place (i .itag)) e in
       rw (agent, e, unnoted n, n, place-is (place (i .itag)) (place-lt (i .itag)), eq-eqb (place (i .itag)) (place (i .itag)) refl) refl)
       (λ e. rw (agent, e, other k e low) (or-no _))
@@ -177,9 +178,9 @@ module _ (me : Noted) (f : Function) (o : Ok me f) (from : ℕ) (i : InvalidateR
   pub gone-step : Step 32 (view f) (view gone) (record { took = some (INV its range); sent = none })
   gone-step =
       record {
-        opens = λ t. ap (pendingOf (f .stu)) (at-tag (tag t)) ∙ snoop-pending (f .stu) range (i .itag) (heldAt (f .places) (tag t));
+        opens = λ t. ap pendingOf (at-tag (tag t)) ∙ snoop-pending range (i .itag) (heldAt (f .places) (tag t));
         unused = λ t e. no-tf (sym e);
-        live = λ t l. inl (snoop-live (f .stu) range (i .itag) (heldAt (f .places) (tag t)) (sym (ap liveOf (at-tag (tag t))) ∙ l) .0);
+        live = λ t l. inl (snoop-live range (i .itag) (heldAt (f .places) (tag t)) (sym (ap liveOf (at-tag (tag t))) ∙ l) .0);
         slots = λ j e h. inl (kept j e h);
         through = λ b k e. no-some e;
         waiting = gone-waiting;
@@ -189,7 +190,7 @@ module _ (me : Noted) (f : Function) (o : Ok me f) (from : ℕ) (i : InvalidateR
         lasts = λ g e. known-from g e;
         notYet = λ k z p. rw (mine k (and-both (eqb (k .agent) from) _ (accepted k z p .0) .1)) (and-false (isAgent (f .agent) (k .agent)));
         dropped = λ k z p j e h. rw (← accepted k z p .1, ← held-entry (f .stu) (slotAt (gone .cache .slots) j) e h .1) (span-clear (f .stu) range (f .cache .slots) j);
-        stale = λ k z p t l. rw (← accepted k z p .1, at-tag (tag t)) (snoop-apart (f .stu) range (i .itag) (heldAt (f .places) (tag t)) (sym (ap liveOf (at-tag (tag t))) ∙ l));
+        stale = λ k z p t l. rw (← accepted k z p .1, at-tag (tag t)) (snoop-apart range (i .itag) (heldAt (f .places) (tag t)) (sym (ap liveOf (at-tag (tag t))) ∙ l));
       }
     where
       known-from : (g : ℕ) → agentOf (f .agent) ≡ some g → some from ≡ some g

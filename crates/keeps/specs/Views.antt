@@ -45,16 +45,16 @@ own-packet me p own class sole = rw (eq-eqb (p .head .sender) (me .id) own, eq-e
 abbrev pub tag : ℕ → Tag
 tag t = record { 0 = t }
 
-abbrev pub askedBy : ℕ → Tr → Asked
-askedBy stu q = record { stu = stu; range = rangeOf q stu }
+abbrev pub askedBy : Tr → Asked
+askedBy q = record { stu = q .stu; range = rangeOf q }
 
 abbrev pub wantedBy : Fetch → Wanted
 wantedBy r = record { address = some (r .address); bytes = r .bytes }
 
-abbrev pub pendingOf : ℕ → Open → Option (Pending terms)
-pendingOf stu Free = none
-pendingOf stu (Ask q) = some (translation (askedBy stu q) (q .whole - q .due))
-pendingOf stu (Read r) = some (fetch (r .translated) (wantedBy r) (r .due))
+abbrev pub pendingOf : Open → Option (Pending terms)
+pendingOf Free = none
+pendingOf (Ask q) = some (translation (askedBy q) (q .whole - q .due))
+pendingOf (Read r) = some (fetch (r .translated) (wantedBy r) (r .due))
 
 abbrev pub liveOf : Open → Bool
 liveOf Free = false
@@ -78,7 +78,7 @@ abbrev pub view : Function → View terms
 view f =
     record {
       held = heldIn f;
-      opens = λ t. pendingOf (f .stu) (heldAt (f .places) (tag t));
+      opens = λ t. pendingOf (heldAt (f .places) (tag t));
       live = λ t. liveOf (heldAt (f .places) (tag t));
       waiting = λ i. isAgent (f .agent) (i .agent) && isListed (f .waiting) (i .number);
       waitsFor = λ i t. isIn (noteOf (heldAt (f .places) (tag t))) (itag (i .number));
@@ -94,8 +94,8 @@ pub record Ok (me : Noted) (f : Function) : Type 0 where
   pub slots : length (f .cache .slots) ≡ 32
   pub reached : (j : ℕ) → slotAt (f .cache .slots) j .to < 18446744073709551616
   pub tags : length (f .places) ≡ 32
-  -- a first packet of two has left something due
-  pub begun : (t : Tag) (q : Tr) → heldAt (f .places) t ≡ Ask q → q .due ≡ 0 → q .whole ≡ 0
+  -- an open Translation Request has the Function's unit, and a first packet of two has left something due
+  pub begun : (t : Tag) (q : Tr) → heldAt (f .places) t ≡ Ask q → (q .stu ≡ f .stu) × (q .due ≡ 0 → q .whole ≡ 0)
   pub vector : f .waiting < 4294967296
   -- only ITags that wait are noted, and they wait for someone
   pub noted : (t : Tag) (i : ITag) → isIn (noteOf (heldAt (f .places) t)) i ≡ true → isIn (f .waiting) i ≡ true

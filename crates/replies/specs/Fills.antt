@@ -56,8 +56,8 @@ unitStep range stu e before payload j c =
     (covered (range .first) e before (range .first + j * unitBytes stu) payload c)
 
 -- each unit of the range, ascending
-unfoldable pub applied : Tr → ℕ → List ℕ → Cache → Cache
-applied t stu payload c = runTo (unitStep (rangeOf t stu) stu (exponentIn (sizeOfAll t payload)) (cameOf t) payload) (unitsOf (t .further)) c
+unfoldable pub applied : Tr → List ℕ → Cache → Cache
+applied t payload c = runTo (unitStep (rangeOf t) (t .stu) (exponentIn (sizeOfAll t payload)) (cameOf t) payload) (unitsOf (t .further)) c
 
 -- what is remembered after a first packet of two
 abbrev pub afterFirst : Tr → ℕ → List ℕ → Tr
@@ -65,6 +65,7 @@ afterFirst t count payload =
     record {
       address = t .address;
       further = t .further;
+      stu = t .stu;
       stale = t .stale;
       size = exponentIn (sizeOfAll t payload);
       whole = count;

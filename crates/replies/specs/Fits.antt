@@ -81,12 +81,12 @@ unfoldable pub allFit : Range → ℕ → ℕ → List ℕ → Bool
 allFit range e before payload = allTo (λ i. fitsAt range e (before + i) (translationAt payload i .size)) (length payload / 8)
 
 -- a size that is none does not fit, nor does one below the unit
-unfoldable pub sizeFits : Tr → ℕ → Size → List ℕ → Bool
-sizeFits t stu (Exponent e) payload = leb (unitExponent stu) e && allFit (rangeOf t stu) e (cameOf t) payload
-sizeFits t stu NoSize payload = false
+unfoldable pub sizeFits : Tr → Size → List ℕ → Bool
+sizeFits t (Exponent e) payload = leb (unitExponent (t .stu)) e && allFit (rangeOf t) e (cameOf t) payload
+sizeFits t NoSize payload = false
 
-abbrev pub fits : Tr → ℕ → List ℕ → Bool
-fits t stu payload = sizeFits t stu (sizeOfAll t payload) payload
+abbrev pub fits : Tr → List ℕ → Bool
+fits t payload = sizeFits t (sizeOfAll t payload) payload
 
 -- the translations of a packet that ends off the boundary are not read
 abbrev pub judgedBy : Bool → Part → Part
@@ -95,5 +95,5 @@ judgedBy fit Off = Off
 judgedBy fit First = fitting fit First
 judgedBy fit Last = fitting fit Last
 
-unfoldable pub judged : Tr → ℕ → Rcb → ℕ → ℕ → List ℕ → Part
-judged t stu rcb count lower payload = judgedBy (fits t stu payload) (partOf t rcb count lower (length payload))
+unfoldable pub judged : Tr → Rcb → ℕ → ℕ → List ℕ → Part
+judged t rcb count lower payload = judgedBy (fits t payload) (partOf t rcb count lower (length payload))

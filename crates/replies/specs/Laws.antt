@@ -29,36 +29,36 @@ abbrev pub Inside : Range → ℕ → Type 0
 Inside range a = (range .first ≤ a) × (a ≤ range .last)
 
 -- An entry that a completion with the payload brings for its request: of a unit of the range, and just what the translation over that unit gives.
-pub record Brought (q : Tr) (stu : ℕ) (load : List ℕ) (x : Entry) : Type 0 where
+pub record Brought (q : Tr) (load : List ℕ) (x : Entry) : Type 0 where
   pub unit : ℕ
   pub among : unit < unitsOf (q .further)
-  pub at : x .unit ≡ rangeOf q stu .first + unit * unitBytes stu
-  pub inside : Inside (rangeOf q stu) (x .unit)
+  pub at : x .unit ≡ rangeOf q .first + unit * unitBytes (q .stu)
+  pub inside : Inside (rangeOf q) (x .unit)
   pub word : ℕ
   pub carried : word < length load / 8
-  pub over : cameOf q + word ≡ regionOver (rangeOf q stu .first) (exponentIn (sizeOfAll q load)) (x .unit)
+  pub over : cameOf q + word ≡ regionOver (rangeOf q .first) (exponentIn (sizeOfAll q load)) (x .unit)
   pub grants : opens (translationAt load word) ≡ true
   pub given : x ≡ entryOf (translationAt load word) (exponentIn (sizeOfAll q load)) (x .unit)
 
-module _ (q : Tr) (stu : ℕ) (load : List ℕ) where
+module _ (q : Tr) (load : List ℕ) where
   abbrev e : ℕ
   e = exponentIn (sizeOfAll q load)
 
   abbrev first : ℕ
-  first = rangeOf q stu .first
+  first = rangeOf q .first
 
   -- what is kept by each fill that the completion brings and by each deletion is kept by the completion
-  pub applied-keeps : (P : Cache → Type 0) (c : Cache) → P c → ((x : Entry) (d : Cache) → Brought q stu load x → P d → P (filled x d)) → ((unit : ℕ) (d : Cache) → Inside (rangeOf q stu) unit → P d → P (unitDropped unit d)) → P (applied q stu load c)
+  pub applied-keeps : (P : Cache → Type 0) (c : Cache) → P c → ((x : Entry) (d : Cache) → Brought q load x → P d → P (filled x d)) → ((unit : ℕ) (d : Cache) → Inside (rangeOf q) unit → P d → P (unitDropped unit d)) → P (applied q load c)
   unfolding applied unitStep covered unitFilled
   applied-keeps P c h fills drops = run-keeps _ P (unitsOf (q .further)) c h (λ j d among k. one j d among k)
     where
-      one : (j : ℕ) (d : Cache) → j < unitsOf (q .further) → P d → P (unitStep (rangeOf q stu) stu e (cameOf q) load j d)
+      one : (j : ℕ) (d : Cache) → j < unitsOf (q .further) → P d → P (unitStep (rangeOf q) (q .stu) e (cameOf q) load j d)
       one j d among k =
-          let a = first + j * unitBytes stu in
+          let a = first + j * unitBytes (q .stu) in
           let r = regionOver first e a in
           let x = translationAt load (r - cameOf q) in
           let at-least : first ≤ a = omega arith in
-          either-case P (ltb (rangeOf q stu .last) a) d _ (λ past. k)
+          either-case P (ltb (rangeOf q .last) a) d _ (λ past. k)
           (λ below. either-case P (ltb r (cameOf q)) d _ (λ before. k)
           (λ here. either-case P (ltb (r - cameOf q) (length load / 8)) _ d
           (λ carried. either-case P (opens x) (filled (entryOf x e a) d) (unitDropped a d)
@@ -67,35 +67,35 @@ module _ (q : Tr) (stu : ℕ) (load : List ℕ) where
             unit = j;
             among = among;
             at = refl;
-            inside = (at-least, ltb-false (rangeOf q stu .last) a below);
+            inside = (at-least, ltb-false (rangeOf q .last) a below);
             word = r - cameOf q;
             carried = ltb-true (r - cameOf q) (length load / 8) carried;
             over = omega (arith, ltb-false r (cameOf q) here);
             grants = grants;
             given = refl;
           }) k)
-          (λ shut. drops a d (at-least, ltb-false (rangeOf q stu .last) a below) k))
+          (λ shut. drops a d (at-least, ltb-false (rangeOf q .last) a below) k))
           (λ later. k)))
 
   -- the slots stay 32, and no unit gets a second entry
-  pub applied-single : (c : Cache) → length (c .slots) ≡ 32 → Single (c .slots) → (length (applied q stu load c .slots) ≡ 32) × Single (applied q stu load c .slots)
+  pub applied-single : (c : Cache) → length (c .slots) ≡ 32 → Single (c .slots) → (length (applied q load c .slots) ≡ 32) × Single (applied q load c .slots)
   applied-single c all s =
       applied-keeps (λ d. (length (d .slots) ≡ 32) × Single (d .slots)) c (all, s)
       (λ x d b k. (fill-long x d (k .0), fill-single x d (k .0) (k .1)))
       (λ unit d b k. (unit-long unit d (k .0), unit-single unit d (k .0) (k .1)))
 
   -- each slot holds what it held, or nothing, or what the completion brought
-  pub applied-slot : (c : Cache) → length (c .slots) ≡ 32 → (i : ℕ) → (slotAt (applied q stu load c .slots) i ≡ slotAt (c .slots) i) ⊎ ((slotAt (applied q stu load c .slots) i ≡ nothing) ⊎ Brought q stu load (slotAt (applied q stu load c .slots) i))
+  pub applied-slot : (c : Cache) → length (c .slots) ≡ 32 → (i : ℕ) → (slotAt (applied q load c .slots) i ≡ slotAt (c .slots) i) ⊎ ((slotAt (applied q load c .slots) i ≡ nothing) ⊎ Brought q load (slotAt (applied q load c .slots) i))
   applied-slot c all i =
       applied-keeps (λ d. (length (d .slots) ≡ 32) × From (slotAt (d .slots) i)) c (all, inl refl)
       (λ x d b k. (fill-long x d (k .0), ⊎-elim (λ s. rw s (k .1)) (λ s. inr (inr (rw (s .1) b))) (fill-slot x d i)))
       (λ unit d b k. (unit-long unit d (k .0), ⊎-elim (λ s. rw s (k .1)) (λ s. inr (inl s)) (unit-slot unit d (k .0) i))) .1
     where
       From : Entry → Type 0
-      From x = (x ≡ slotAt (c .slots) i) ⊎ ((x ≡ nothing) ⊎ Brought q stu load x)
+      From x = (x ≡ slotAt (c .slots) i) ⊎ ((x ≡ nothing) ⊎ Brought q load x)
 
   -- a unit outside the range gets no entry: it keeps its own, or loses it
-  pub applied-outside : (c : Cache) → length (c .slots) ≡ 32 → Single (c .slots) → (unit : ℕ) → (Inside (rangeOf q stu) unit → ⊥) → (found (applied q stu load c .slots) unit ≡ found (c .slots) unit) ⊎ (found (applied q stu load c .slots) unit ≡ Miss)
+  pub applied-outside : (c : Cache) → length (c .slots) ≡ 32 → Single (c .slots) → (unit : ℕ) → (Inside (rangeOf q) unit → ⊥) → (found (applied q load c .slots) unit ≡ found (c .slots) unit) ⊎ (found (applied q load c .slots) unit ≡ Miss)
   applied-outside c all s unit outside =
       applied-keeps (λ d. (length (d .slots) ≡ 32) × (Single (d .slots) × Seen (found (d .slots) unit))) c (all, (s, inl refl))
       (λ x d b k. (fill-long x d (k .0), (fill-single x d (k .0) (k .1 .0), ⊎-elim (λ a. rw a (k .1 .1)) inr (fill-others x d (k .0) (k .1 .0) unit (λ e. outside (rw e at (b .inside)))))))

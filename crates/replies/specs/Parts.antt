@@ -109,40 +109,40 @@ off-last e = let z : _≡_ {A = ℕ} 0 1 = cc in omega arith
 first-last : First ≡ Last → ⊥
 first-last e = let z : _≡_ {A = ℕ} 0 1 = cc in omega arith
 
-module _ (q : Tr) (stu : ℕ) (rcb : Rcb) (count lower : ℕ) (load : List ℕ) where
-  pub last-whole : judged q stu rcb count lower load ≡ Last → count ≡ length load
+module _ (q : Tr) (rcb : Rcb) (count lower : ℕ) (load : List ℕ) where
+  pub last-whole : judged q rcb count lower load ≡ Last → count ≡ length load
   unfolding judged
-  last-whole e = part-ends q rcb count lower (length load) Last misfit-last first-last (judged-by (fits q stu load) (partOf q rcb count lower (length load)) Last misfit-last off-last e .1)
+  last-whole e = part-ends q rcb count lower (length load) Last misfit-last first-last (judged-by (fits q load) (partOf q rcb count lower (length load)) Last misfit-last off-last e .1)
 
-  pub off-whole : judged q stu rcb count lower load ≡ Off → count ≡ length load
+  pub off-whole : judged q rcb count lower load ≡ Off → count ≡ length load
   unfolding judged
-  off-whole e = part-ends q rcb count lower (length load) Off misfit-off first-off (judged-off (fits q stu load) (partOf q rcb count lower (length load)) e)
+  off-whole e = part-ends q rcb count lower (length load) Off misfit-off first-off (judged-off (fits q load) (partOf q rcb count lower (length load)) e)
 
-  pub first-begins : judged q stu rcb count lower load ≡ First → (q .due ≡ 0) × ((length load ≤ count) × (count ≡ length load → ⊥))
+  pub first-begins : judged q rcb count lower load ≡ First → (q .due ≡ 0) × ((length load ≤ count) × (count ≡ length load → ⊥))
   unfolding judged
-  first-begins e = part-begins q rcb count lower (length load) (judged-by (fits q stu load) (partOf q rcb count lower (length load)) First misfit-first off-first e .1)
+  first-begins e = part-begins q rcb count lower (length load) (judged-by (fits q load) (partOf q rcb count lower (length load)) First misfit-first off-first e .1)
 
-  pub first-fits : judged q stu rcb count lower load ≡ First → fits q stu load ≡ true
+  pub first-fits : judged q rcb count lower load ≡ First → fits q load ≡ true
   unfolding judged
-  first-fits e = judged-by (fits q stu load) (partOf q rcb count lower (length load)) First misfit-first off-first e .0
+  first-fits e = judged-by (fits q load) (partOf q rcb count lower (length load)) First misfit-first off-first e .0
 
-  pub last-fits : judged q stu rcb count lower load ≡ Last → fits q stu load ≡ true
+  pub last-fits : judged q rcb count lower load ≡ Last → fits q load ≡ true
   unfolding judged
-  last-fits e = judged-by (fits q stu load) (partOf q rcb count lower (length load)) Last misfit-last off-last e .0
+  last-fits e = judged-by (fits q load) (partOf q rcb count lower (length load)) Last misfit-last off-last e .0
 
 -- what fits has one size, its first translation's
-pub one-size : (q : Tr) (stu : ℕ) (load : List ℕ) → fits q stu load ≡ true → 0 < length load / 8 → exponentIn (translationAt load 0 .size) ≡ exponentIn (sizeOfAll q load)
+pub one-size : (q : Tr) (load : List ℕ) → fits q load ≡ true → 0 < length load / 8 → exponentIn (translationAt load 0 .size) ≡ exponentIn (sizeOfAll q load)
 unfolding sizeOfAll sizeFits allFit fitsAt
-one-size q stu load f some = byCases (eqb (q .due) 0) (λ u. rw u refl) (λ u. rw u (second (rw u at f)))
+one-size q load f some = byCases (eqb (q .due) 0) (λ u. rw u refl) (λ u. rw u (second (rw u at f)))
   where
     sized : (s : Size) (e : ℕ) → hasSize s e ≡ true → exponentIn s ≡ e
     sized (Exponent own) e h = eqb-true own e h
     sized NoSize e h = no-tf (sym h)
 
-    second : sizeFits q stu (Exponent (q .size)) load ≡ true → exponentIn (translationAt load 0 .size) ≡ q .size
+    second : sizeFits q (Exponent (q .size)) load ≡ true → exponentIn (translationAt load 0 .size) ≡ q .size
     second h =
-        let every = and-both (leb (unitExponent stu) (q .size)) _ h .1 in
-        let test : ℕ → Bool = λ i. fitsAt (rangeOf q stu) (q .size) (cameOf q + i) (translationAt load i .size) in
+        let every = and-both (leb (unitExponent (q .stu)) (q .size)) _ h .1 in
+        let test : ℕ → Bool = λ i. fitsAt (rangeOf q) (q .size) (cameOf q + i) (translationAt load i .size) in
         byCases (test 0) (λ t. sized (translationAt load 0 .size) (q .size) (and-both (hasSize (translationAt load 0 .size) (q .size)) _ t .0))
         (λ t. absurd (never-both _ every (all-stop test 0 (length load / 8) some t)))
 

@@ -184,15 +184,15 @@ fn all_fit(range: Range, e: u32, before: u64, payload: &[u8]) -> bool
     true
 }
 
-fn size_fits(t: Tr, stu: u8, size: Size, payload: &[u8]) -> bool
-    ensures { λ r. ⌜ r ≡ sizeFits t stu size (now (payload .entry)) ⌝ }
+fn size_fits(t: Tr, size: Size, payload: &[u8]) -> bool
+    ensures { λ r. ⌜ r ≡ sizeFits t size (now (payload .entry)) ⌝ }
 {
     match size {
         Size::Exponent(e) => {
-            if e < span::unit_exponent(stu) {
+            if e < span::unit_exponent(t.stu) {
                 false
             } else {
-                all_fit(tags::range_of(t, stu), e, came(t), payload)
+                all_fit(tags::range_of(t), e, came(t), payload)
             }
         }
         Size::NoSize => false,
@@ -200,17 +200,17 @@ fn size_fits(t: Tr, stu: u8, size: Size, payload: &[u8]) -> bool
 }
 
 // All of one size, the unit or larger, and every region begins in the range.
-fn do_fit(t: Tr, stu: u8, payload: &[u8]) -> bool
-    ensures { λ r. ⌜ r ≡ fits t stu (now (payload .entry)) ⌝ }
+fn do_fit(t: Tr, payload: &[u8]) -> bool
+    ensures { λ r. ⌜ r ≡ fits t (now (payload .entry)) ⌝ }
 {
     let size = size_of_all(t, payload);
-    size_fits(t, stu, size, payload)
+    size_fits(t, size, payload)
 }
 
-fn if_fitting(t: Tr, stu: u8, payload: &[u8], part: Part) -> Part
-    ensures { λ r. ⌜ r ≡ cond (fits t stu (now (payload .entry))) part Part.Misfit ⌝ }
+fn if_fitting(t: Tr, payload: &[u8], part: Part) -> Part
+    ensures { λ r. ⌜ r ≡ cond (fits t (now (payload .entry))) part Part.Misfit ⌝ }
 {
-    if do_fit(t, stu, payload) {
+    if do_fit(t, payload) {
         part
     } else {
         Part::Misfit
@@ -218,15 +218,15 @@ fn if_fitting(t: Tr, stu: u8, payload: &[u8], part: Part) -> Part
 }
 
 // What a completion is to its request, translations and all. Nothing is changed.
-pub fn judge(t: Tr, stu: u8, rcb: Rcb, count: u16, lower: u8, payload: &[u8]) -> Part
-    ensures { λ r. ⌜ r ≡ judged t stu rcb count lower (now (payload .entry)) ⌝ }
+pub fn judge(t: Tr, rcb: Rcb, count: u16, lower: u8, payload: &[u8]) -> Part
+    ensures { λ r. ⌜ r ≡ judged t rcb count lower (now (payload .entry)) ⌝ }
 {
     let part = part_of(t, rcb, count, lower, payload.len());
     match part {
         Part::Misfit => part,
         Part::Off => part,
-        Part::First => if_fitting(t, stu, payload, part),
-        Part::Last => if_fitting(t, stu, payload, part),
+        Part::First => if_fitting(t, payload, part),
+        Part::Last => if_fitting(t, payload, part),
     }
 }
 
@@ -304,10 +304,11 @@ fn cover_at(c: Cache, range: Range, stu: u8, e: u32, before: u64, j: u64, payloa
 }
 
 // Every unit of the request's range that the payload covers, ascending.
-pub fn apply(c: Cache, t: Tr, stu: u8, payload: &[u8]) -> Cache
-    ensures { λ r. ⌜ r ≡ applied t stu (now (payload .entry)) c ⌝ }
+pub fn apply(c: Cache, t: Tr, payload: &[u8]) -> Cache
+    ensures { λ r. ⌜ r ≡ applied t (now (payload .entry)) c ⌝ }
 {
-    let range = tags::range_of(t, stu);
+    let range = tags::range_of(t);
+    let stu = t.stu;
     let size = size_of_all(t, payload);
     let e = exponent(size);
     let before = came(t);
@@ -329,6 +330,7 @@ pub fn after_first(t: Tr, count: u16, payload: &[u8]) -> Tr
     Tr {
         address: t.address,
         further: t.further,
+        stu: t.stu,
         stale: t.stale,
         size: exponent(size),
         whole: count,

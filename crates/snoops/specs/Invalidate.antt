@@ -41,7 +41,7 @@ abbrev pub snoopedBy : Function → ℕ → InvalidateRequest → Function
 snoopedBy f from i =
     remade f (f .enabled) (Known from) (joined (f .waiting) (i .itag))
     (cut (f .cache) (f .stu) (snoopRange (f .stu) i))
-    (snooped (f .stu) (snoopRange (f .stu) i) (i .itag) (f .places))
+    (snooped (snoopRange (f .stu) i) (i .itag) (f .places))
     (f .pages)
 
 -- 10, 9

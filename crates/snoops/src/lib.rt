@@ -56,7 +56,7 @@ fn snoop(f: Function, from: u16, i: InvalidateRequest) -> Function
     let cache = f.cache;
     let places = f.places;
     let left = cut_cache(cache, f.stu, range);
-    let noted = tags::snoop(places, f.stu, range, i.itag);
+    let noted = tags::snoop(places, range, i.itag);
     let agent = Agent::Known(from);
     let rcb = f.rcb;
     let pages = f.pages;

@@ -162,9 +162,9 @@ freed-exactly places t i all = (there, λ p. record { tag = p .0 .tag; read = p 
 -- ---- tags marked
 
 -- the places stay as many
-pub snooped-long : (places : List Place) (stu : ℕ) (range : Range) (i : ITag) → length (snooped stu range i places) ≡ length places
+pub snooped-long : (places : List Place) (range : Range) (i : ITag) → length (snooped range i places) ≡ length places
 unfolding snooped
-snooped-long places stu range i = length-map places (snoopedAt stu range i)
+snooped-long places range i = length-map places (snoopedAt range i)
 
 pub staled-long : (places : List Place) → length (allStaled places) ≡ length places
 unfolding allStaled
@@ -193,27 +193,27 @@ staled-held places t = held-map staled staledAt (λ p. one (p .held) p refl) ref
     one (Read r) p e = rw e
 
 -- the range of a Translation Request goes by its address and its number of units,
-pub range-run : (t : Tr) (stu : ℕ) → rangeOf t stu ≡ runOf (t .address) (t .further) stu
+pub range-run : (t : Tr) → rangeOf t ≡ runOf (t .address) (t .further) (t .stu)
 unfolding rangeOf
-range-run t stu = refl
+range-run t = refl
 
 -- and an invalidation concerns it by that range, and a translated read by all its bytes
-pub touches-ask : (stu : ℕ) (range : Range) (t : Tr) → touches stu range (Ask t) ≡ meetsOf (rangeOf t stu) range
+pub touches-ask : (range : Range) (t : Tr) → touches range (Ask t) ≡ meetsOf (rangeOf t) range
 unfolding touches
-touches-ask stu range t = refl
+touches-ask range t = refl
 
-pub touches-read : (stu : ℕ) (range : Range) (f : Fetch) → touches stu range (Read f) ≡ (f .translated && meetsOf (reachOf (f .address) (f .bytes - 1)) range)
+pub touches-read : (range : Range) (f : Fetch) → touches range (Read f) ≡ (f .translated && meetsOf (reachOf (f .address) (f .bytes - 1)) range)
 unfolding touches bytesAsked
-touches-read stu range f = refl
+touches-read range f = refl
 
 -- an invalidation marks what it concerns
-module _ (stu : ℕ) (range : Range) (i : ITag) where
+module _ (range : Range) (i : ITag) where
   abbrev pub snoopOf : Open → Open
-  snoopOf o = cond (touches stu range o) (marked i o) o
+  snoopOf o = cond (touches range o) (marked i o) o
 
-  pub snooped-held : (places : List Place) (t : Tag) → heldAt (snooped stu range i places) t ≡ snoopOf (heldAt places t)
+  pub snooped-held : (places : List Place) (t : Tag) → heldAt (snooped range i places) t ≡ snoopOf (heldAt places t)
   unfolding snooped touches
-  snooped-held places t = held-map snoopOf (snoopedAt stu range i) (λ p. one (touches stu range (p .held)) p) refl places t
+  snooped-held places t = held-map snoopOf (snoopedAt range i) (λ p. one (touches range (p .held)) p) refl places t
     where
       one : (b : Bool) (p : Place) → cond b (holding (marked i (p .held))) p .held ≡ cond b (marked i (p .held)) (p .held)
       one true p = refl

@@ -25,8 +25,8 @@ abbrev pub emptyPlaces : List Place
 emptyPlaces = replicate 32 (holding Free)
 
 -- a Translation Request as it is sent
-abbrev pub asked : ℕ → ℕ → Open
-asked address further = Ask (record { address = address; further = further; stale = false; size = 0; whole = 0; due = 0 })
+abbrev pub asked : ℕ → ℕ → ℕ → Open
+asked address further stu = Ask (record { address = address; further = further; stu = stu; stale = false; size = 0; whole = 0; due = 0 })
 
 -- a read as it is sent
 abbrev pub fetching : ℕ → ℕ → Bool → Open
@@ -55,21 +55,21 @@ unfoldable pub placed : List Place → Tag → Open → List Place
 placed places t o = cond (isTag t) (set places (t .0) (holding o)) places
 
 -- the units that a Translation Request is for
-unfoldable pub rangeOf : Tr → ℕ → Range
-rangeOf t stu = runOf (t .address) (t .further) stu
+unfoldable pub rangeOf : Tr → Range
+rangeOf t = runOf (t .address) (t .further) (t .stu)
 
 -- the bytes of a read, by the address asked, however many have come
 unfoldable pub bytesAsked : Fetch → Range
 bytesAsked f = reachOf (f .address) (f .bytes - 1)
 
 -- does an invalidation of a range concern it? Translation Requests by their whole range; reads only if sent with a translated address
-unfoldable pub touches : ℕ → Range → Open → Bool
-touches stu range Free = false
-touches stu range (Ask t) = meetsOf (rangeOf t stu) range
-touches stu range (Read f) = f .translated && meetsOf (bytesAsked f) range
+unfoldable pub touches : Range → Open → Bool
+touches range Free = false
+touches range (Ask t) = meetsOf (rangeOf t) range
+touches range (Read f) = f .translated && meetsOf (bytesAsked f) range
 
 abbrev pub stale : Tr → Tr
-stale t = record { address = t .address; further = t .further; stale = true; size = t .size; whole = t .whole; due = t .due }
+stale t = record { address = t .address; further = t .further; stu = t .stu; stale = true; size = t .size; whole = t .whole; due = t .due }
 
 abbrev pub awaited : ITag → Fetch → Fetch
 awaited itag f = record { address = f .address; bytes = f .bytes; due = f .due; translated = f .translated; itags = joined (f .itags) itag }
@@ -80,11 +80,11 @@ marked itag Free = Free
 marked itag (Ask t) = Ask (stale t)
 marked itag (Read f) = Read (awaited itag f)
 
-abbrev pub snoopedAt : ℕ → Range → ITag → Place → Place
-snoopedAt stu range itag p = cond (touches stu range (p .held)) (holding (marked itag (p .held))) p
+abbrev pub snoopedAt : Range → ITag → Place → Place
+snoopedAt range itag p = cond (touches range (p .held)) (holding (marked itag (p .held))) p
 
-unfoldable pub snooped : ℕ → Range → ITag → List Place → List Place
-snooped stu range itag places = map (snoopedAt stu range itag) places
+unfoldable pub snooped : Range → ITag → List Place → List Place
+snooped range itag places = map (snoopedAt range itag) places
 
 abbrev pub isAsk : Open → Bool
 isAsk Free = false

@@ -12,12 +12,14 @@ ghost use Rattle.lemmas.specs.First.{firstAt};
 ghost use Rattle.tags.specs.declared.Open.the-variants.{Ask, Read};
 ghost use Rattle.tags.specs.Tags.{asked, fetching, emptyPlaces, isFree, isTag, freeTag, heldAt, placed, rangeOf, bytesAsked, touches, marked, snooped, isAsk, staled, allStaled, noteOf, noted};
 
-// An open Translation Request: the address asked for, how many units beyond the first, and whether
-// an invalidation has met it. After a first packet of two also the size of its translations as an
-// exponent, the Byte Count of both packets and what the second has to bring; else 0.
+// An open Translation Request: the address asked for, how many units beyond the first, the STU that
+// says how large they are, and whether an invalidation has met it. After a first packet of two also the
+// size of its translations as an exponent, the Byte Count of both packets and what the second has to
+// bring; else 0.
 pub struct Tr {
     pub address: u64,
     pub further: u8,
+    pub stu: u8,
     pub stale: bool,
     pub size: u32,
     pub whole: u16,
@@ -52,12 +54,13 @@ pub fn all_free() -> [Place; 32]
 }
 
 // A Translation Request for the unit that holds an address and the further ones.
-pub fn asking(address: u64, further: u8) -> Open
-    ensures { λ r. ⌜ r ≡ asked address further ⌝ }
+pub fn asking(address: u64, further: u8, stu: u8) -> Open
+    ensures { λ r. ⌜ r ≡ asked address further stu ⌝ }
 {
     Open::Ask(Tr {
         address,
         further,
+        stu,
         stale: false,
         size: 0,
         whole: 0,
@@ -147,19 +150,19 @@ fn bytes_asked(f: Fetch) -> Range
 }
 
 // The units that a Translation Request is for.
-pub fn range_of(t: Tr, stu: u8) -> Range
-    ensures { λ r. ⌜ r ≡ rangeOf t stu ⌝ }
+pub fn range_of(t: Tr) -> Range
+    ensures { λ r. ⌜ r ≡ rangeOf t ⌝ }
 {
-    span::run(t.address, t.further, stu)
+    span::run(t.address, t.further, t.stu)
 }
 
 // Does an invalidation of a range concern what a tag is open for?
-fn is_met(o: Open, stu: u8, range: Range) -> bool
-    ensures { λ r. ⌜ r ≡ touches stu range o ⌝ }
+fn is_met(o: Open, range: Range) -> bool
+    ensures { λ r. ⌜ r ≡ touches range o ⌝ }
 {
     match o {
         Open::Free => false,
-        Open::Ask(t) => span::meets(range_of(t, stu), range),
+        Open::Ask(t) => span::meets(range_of(t), range),
         Open::Read(f) => {
             if f.translated {
                 span::meets(bytes_asked(f), range)
@@ -176,6 +179,7 @@ fn stale(t: Tr) -> Open
     Open::Ask(Tr {
         address: t.address,
         further: t.further,
+        stu: t.stu,
         stale: true,
         size: t.size,
         whole: t.whole,
@@ -207,14 +211,14 @@ fn mark(o: Open, itag: ITag) -> Open
 }
 
 // Every Translation Request and translated read that meets the range of an invalidation.
-pub fn snoop(mut places: [Place; 32], stu: u8, range: Range, itag: ITag) -> [Place; 32]
-    ensures { λ r. ⌜ r ≡ snooped stu range itag places ⌝ }
+pub fn snoop(mut places: [Place; 32], range: Range, itag: ITag) -> [Place; 32]
+    ensures { λ r. ⌜ r ≡ snooped range itag places ⌝ }
 {
     let mut i: usize = 0;
     while i < 32 {
         let p = places[i];
         let o = p.held;
-        if is_met(o, stu, range) {
+        if is_met(o, range) {
             let marked = mark(o, itag);
             places[i] = Place { held: marked };
         }

@@ -9,10 +9,10 @@ use Rattle.replies.proofs.apply.Statement.{statement}
 use Rattle.replies.proofs.apply.Tie as tie
 
 abbrev Inv-loop : tie.InvT-loop
-Inv-loop stu payload range e before n next₀ j₀ next j = (j ≤ n) × (n ≤ 16) × (next ≡ runTo (unitStep range stu e before payload) j next₀)
+Inv-loop payload range stu e before n next₀ j₀ next j = (j ≤ n) × (n ≤ 16) × (next ≡ runTo (unitStep range stu e before payload) j next₀)
 
 abbrev μ-loop : tie.MeasureT-loop
-μ-loop stu payload range e before n next₀ j₀ next j = n - j
+μ-loop payload range stu e before n next₀ j₀ next j = n - j
 
 range-of-requires : tie.Need-range-of-requires Inv-loop μ-loop
 range-of-requires c κs = search needs

@@ -12,10 +12,10 @@ use Rattle.tags.proofs.snoop.Statement.{statement}
 use Rattle.tags.proofs.snoop.Tie as tie
 
 abbrev Inv-loop : tie.InvT-loop
-Inv-loop stu range itag places₀ i₀ places i = (length places₀ ≡ 32) × (i ≤ 32) × (places ≡ mapTo (snoopedAt stu range itag) i places₀)
+Inv-loop range itag places₀ i₀ places i = (length places₀ ≡ 32) × (i ≤ 32) × (places ≡ mapTo (snoopedAt range itag) i places₀)
 
 abbrev μ-loop : tie.MeasureT-loop
-μ-loop stu range itag places₀ i₀ places i = 32 - i
+μ-loop range itag places₀ i₀ places i = 32 - i
 
 loop-holds : tie.Need-loop-holds Inv-loop μ-loop
 loop-holds c = (search needs, search needs, refl)

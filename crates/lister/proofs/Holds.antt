@@ -10,7 +10,6 @@ use lib.ListN.{length, take, take-append-drop}
 use lib.Seq.{paste, take-all, take-length, take-append-add, length-take-le}
 use borrow.Author.Tests.{leb-true, leb-false, lt-ltb, le-ltb}
 use Rattle.rows.specs.Rows.{outLine, rowIn}
-use Rattle.rows.specs.Short.{outLine-short}
 use Rattle.lister.specs.declared.Progress.{Progress}
 use Rattle.lister.specs.Line.{lineRead, lineText}
 use Rattle.rows.specs.Places.{Laid}
@@ -34,10 +33,6 @@ held-cut p cs l₀ l₁ l₂ a n h f g =
 pub line-out : (k : ℕ) (cs : List ℕ) → outLine k (lineRead (cut cs)) ≡ lineText k cs
 unfolding lineText
 line-out k cs = sym (lineText-cut k cs)
-
-pub line-short : (k : ℕ) (cs : List ℕ) → length (lineText k cs) ≤ 64
-unfolding lineText
-line-short k cs = outLine-short k (lineRead cs)
 
 -- characters put after those that are held
 pub kept-cut : (held : ℕ) (hold cs : List ℕ) (n : ℕ) (m : List ℕ) → held ≤ 289 → held ≤ length hold → Laid held (take (289 - held) cs) hold n m

@@ -40,7 +40,7 @@ Fits n hold out bs = (289 ≤ length hold) × (64 ≤ length out) × (n * 64 ≤
 
 -- ---- one step
 
-line-short : (k : ℕ) (cs : List ℕ) → length (lineText k cs) ≤ 64
+pub line-short : (k : ℕ) (cs : List ℕ) → length (lineText k cs) ≤ 64
 unfolding lineText
 line-short k cs = outLine-short k (lineRead cs)
 

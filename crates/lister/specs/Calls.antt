@@ -1,9 +1,9 @@
 -- What a caller needs of a call: that it stays within what was lent, and that the next call finds what the last one kept.
-use Prim.Native.Nat.{ℕ, _≤_, min, zero-le}
+use Prim.Native.Nat.{ℕ, _≤_, min}
 use mathlib.Core.Path.{_≡_, refl, ap}
-use mathlib.Core.Bool.{Bool, true, false, cond}
+use mathlib.Core.Bool.{cond}
 use mathlib.Core.List.{List, _++_}
-use native.Mathlib.Nat.{le-trans, min-le-left, min-eq-left}
+use native.Mathlib.Nat.{min-le-left, min-eq-left}
 use lib.Dec.{ltb}
 use lib.ListN.{length, take, drop, length-take}
 use lib.Seq.{take-at}
@@ -13,15 +13,7 @@ use Rattle.lister.specs.declared.Fed.{Fed}
 use Rattle.lister.specs.Stream.{printed, lastText, cut}
 use Rattle.lister.specs.Pieces.{startIn, takes, fed, finished}
 
-takes-some : (t : Bool) (k n room : ℕ) → cond t 0 (takes k n room) ≤ n
-takes-some true k n room = zero-le
-takes-some false k n room = le-trans (min-le-left (min n _) _) (min-le-left n _)
-
 module _ (from : Progress) (hold block out : List ℕ) (r : Fed) (h o : List ℕ) (e : (r, h, o) ≡ fed from hold block out) where
-  pub feed-takes : r .taken ≤ length block
-  unfolding fed
-  feed-takes = rw (ap (λ (x : Fed × List ℕ × List ℕ). x .0 .taken) e) (takes-some (ltb (length hold) 289) (from .number) (length block) (length out))
-
   pub feed-readies : length o ≡ length out → r .ready ≤ length out
   unfolding fed
   feed-readies l =

@@ -15,7 +15,9 @@ use Rattle.atc.specs.declared.Entry.{Entry}
 use Rattle.atc.specs.declared.Found.{Found}
 use Rattle.atc.specs.declared.Found.the-variants.{Hit, Miss}
 use Rattle.atc.specs.Cache.{found}
-use Rattle.tags.specs.Tags.{isTag, freeTag, fetching}
+use Rattle.tags.specs.declared.FreeTag.{FreeTag}
+use Rattle.tags.specs.declared.FreeTag.the-variants.{Lowest, NoneFree}
+use Rattle.tags.specs.Tags.{freeTag, fetching}
 use Rattle.state.specs.declared.Function.{Function}
 use Rattle.state.specs.State.{withPlace, headOf}
 use Rattle.state.specs.Answers.{Deed, done, tag, sending}
@@ -63,7 +65,7 @@ lookingUp f a load =
     demand 6 (f .enabled)
     (demand 12 (isInPage (a .address) (a .words))
     (demand 12 (eqb load (loadFor (a .way) (a .words)))
-    (enteredBy (a .way) (f .stu) (a .address) (found (f .cache .slots) (unitAt (f .stu) (a .address))))))
+    (enteredBy (a .way) (f .stu) (a .address) (found (f .cache) (unitAt (f .stu) (a .address))))))
 
 abbrev pub memoryOf : ℕ → Access → ℕ → Target → Packet
 memoryOf id access words t =
@@ -80,8 +82,13 @@ readFrom f t at a load out =
 abbrev pub writeTo : Function → Target → ℕ → List ℕ → List ℕ → Said Deed
 writeTo f at words load out = sending f done (memoryOf (f .id) Write words at) load out
 
+-- 11 where no tag is free
+abbrev pub readOn : Function → FreeTag → Target → Accessing → List ℕ → List ℕ → Said Deed
+readOn f (Lowest t) at a load out = readFrom f t at a load out
+readOn f NoneFree at a load out = number 11
+
 abbrev pub going : Function → Way → Target → Accessing → List ℕ → List ℕ → Said Deed
-going f ToRead at a load out = demand 11 (isTag (freeTag (f .places))) (readFrom f (freeTag (f .places)) at a load out)
+going f ToRead at a load out = readOn f (freeTag (f .places)) at a load out
 going f ToWrite at a load out = writeTo f at (a .words) load out
 
 abbrev pub goingIf : Function → Accessing → List ℕ → List ℕ → Said Target → Said Deed

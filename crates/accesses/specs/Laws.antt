@@ -46,5 +46,5 @@ reached f a load at e =
       some = leb-true 1 (a .words) (some .0);
       few = leb-true (a .words) 32 (few .0);
       fills = eqb-true load (loadFor (a .way) (a .words)) (load-is .0);
-      dword = entered-dword (a .way) (f .stu) (a .address) (found (f .cache .slots) (unitAt (f .stu) (a .address))) at (eqb-true (a .address % 4) 0 (dword .0)) (load-is .1);
+      dword = entered-dword (a .way) (f .stu) (a .address) (found (f .cache) (unitAt (f .stu) (a .address))) at (eqb-true (a .address % 4) 0 (dword .0)) (load-is .1);
     }

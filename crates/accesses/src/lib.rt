@@ -11,6 +11,7 @@ use packet::Writing;
 use state::Answer;
 use state::Effect;
 use state::Function;
+use tags::FreeTag;
 ghost use mathlib.Core.Path.{_≡_};
 ghost use Prim.Native.Nat.{_≤_};
 ghost use Rattle.state.specs.Answers.{told, ended};
@@ -115,9 +116,9 @@ pub fn look_up(f: Function, a: Accessing, load: usize) -> Goes
     if f.enabled {
         if is_in_page(a.address, a.words) {
             if load == load_for(way, a.words) {
-                let slots = f.cache.slots;
+                let cache = f.cache;
                 let unit = span::region(a.address, span::unit_exponent(f.stu)).first;
-                let entry = atc::find(slots, unit);
+                let entry = atc::find(cache, unit);
                 enter(way, f.stu, a.address, entry)
             } else {
                 Goes::Refused(Refusal::Argument)
@@ -195,11 +196,10 @@ fn read_on_a_tag(f: Function, at: Target, a: Accessing, payload: &[u8], out: &mu
     ensures { λ r. ⌜ told r (now (out .exit)) ≡ ended f (now (out .entry)) (going f Way.Read at a (now (payload .entry)) (now (out .entry))) ⌝ }
 {
     let places = f.places;
-    let tag = tags::lowest_free(places);
-    if tags::is_tag(tag) {
-        read_from(f, tag, at, a, payload, out)
-    } else {
-        state::refused(f, Refusal::NoTag)
+    let free = tags::lowest_free(places);
+    match free {
+        FreeTag::Lowest(tag) => read_from(f, tag, at, a, payload, out),
+        FreeTag::NoneFree => state::refused(f, Refusal::NoTag),
     }
 }
 

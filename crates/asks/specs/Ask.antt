@@ -11,8 +11,10 @@ use Rattle.span.specs.Range.{unitExponent, unitBytes, regionOf}
 use Rattle.packet.specs.declared.Tag.{Tag}
 use Rattle.packet.specs.declared.Packet.{Packet}
 use Rattle.packet.specs.declared.Body.the-variants.{Tr}
-use Rattle.packet.specs.Numbers.{Said, demand}
-use Rattle.tags.specs.Tags.{isTag, freeTag, asked}
+use Rattle.packet.specs.Numbers.{Said, number, demand}
+use Rattle.tags.specs.declared.FreeTag.{FreeTag}
+use Rattle.tags.specs.declared.FreeTag.the-variants.{Lowest, NoneFree}
+use Rattle.tags.specs.Tags.{freeTag, asked}
 use Rattle.replies.specs.declared.Rcb.{Rcb}
 use Rattle.replies.specs.declared.Rcb.the-variants.{B64, B128}
 use Rattle.replies.specs.Fits.{boundary}
@@ -43,13 +45,17 @@ requestOf id t a =
 abbrev pub askFrom : Function → Tag → Asking → List ℕ → Said Deed
 askFrom f t a out = sending (withPlace f t (asked (a .address) (a .units - 1) (f .stu))) (tag (t .0)) (requestOf (f .id) t a) [] out
 
+-- 11 where no tag is free
+abbrev pub askOn : Function → FreeTag → Asking → List ℕ → Said Deed
+askOn f (Lowest t) a out = askFrom f t a out
+askOn f NoneFree a out = number 11
+
 -- 6, 12, 11, 17
 unfoldable pub asking : Function → Asking → List ℕ → Said Deed
 asking f a out =
     demand 6 (f .enabled)
     (demand 12 (isAskable (f .rcb) (f .stu) a)
-    (demand 11 (isTag (freeTag (f .places)))
-    (askFrom f (freeTag (f .places)) a out)))
+    (askOn f (freeTag (f .places)) a out))
 
 -- what may be asked for is 16 units at most
 pub few-units : (rcb : Rcb) (stu : ℕ) (a : Asking) → isAskable rcb stu a ≡ true → (1 ≤ a .units) × (a .units ≤ 16)

@@ -9,10 +9,11 @@ use replies::Rcb;
 use state::Answer;
 use state::Effect;
 use state::Function;
+use tags::FreeTag;
 ghost use mathlib.Core.Path.{_≡_};
 ghost use Prim.Native.Nat.{_-_, _≤_};
 ghost use Rattle.state.specs.Answers.{told, ended};
-ghost use Rattle.asks.specs.Ask.{requestOf, isFew, isBelowTop, isAskable, askFrom, asking};
+ghost use Rattle.asks.specs.Ask.{requestOf, isFew, isBelowTop, isAskable, askFrom, askOn, asking};
 
 // What is asked for: so many units from the one that holds an address, and whether no write is meant.
 pub struct Asking {
@@ -95,6 +96,16 @@ fn ask_with(f: Function, tag: Tag, a: Asking, out: &mut [u8]) -> Effect
     }
 }
 
+fn ask_on(f: Function, free: FreeTag, a: Asking, out: &mut [u8]) -> Effect
+    requires { ⌜ a .units ≤ 16 ⌝ }
+    ensures { λ r. ⌜ told r (now (out .exit)) ≡ ended f (now (out .entry)) (askOn f free a (now (out .entry))) ⌝ }
+{
+    match free {
+        FreeTag::Lowest(tag) => ask_with(f, tag, a, out),
+        FreeTag::NoneFree => state::refused(f, Refusal::NoTag),
+    }
+}
+
 // A Translation Request.
 pub fn ask(f: Function, a: Asking, out: &mut [u8]) -> Effect
     ensures { λ r. ⌜ told r (now (out .exit)) ≡ ended f (now (out .entry)) (asking f a (now (out .entry))) ⌝ }
@@ -102,16 +113,11 @@ pub fn ask(f: Function, a: Asking, out: &mut [u8]) -> Effect
     let rcb = f.rcb;
     let places = f.places;
     let askable = is_askable(rcb, f.stu, a);
-    let tag = tags::lowest_free(places);
-    let is_left = tags::is_tag(tag);
+    let free = tags::lowest_free(places);
     let enabled = f.enabled;
     if enabled {
         if askable {
-            if is_left {
-                ask_with(f, tag, a, out)
-            } else {
-                state::refused(f, Refusal::NoTag)
-            }
+            ask_on(f, free, a, out)
         } else {
             state::refused(f, Refusal::Argument)
         }

@@ -1,9 +1,10 @@
 -- The cache. 01, "The Function's tables", ATC.
-use mathlib.Core.Bool.{Bool, false, not, cond, _&&_}
+use mathlib.Core.Path.{_≡_}
+use mathlib.Core.Bool.{Bool, true, false, not, cond, _&&_}
 use mathlib.Core.List.{List, map}
 use Prim.Native.Nat.{ℕ, _+_, _%_, _^_}
 use lib.Dec.{eqb, ltb}
-use lib.ListN.{replicate, set, getD}
+use lib.ListN.{length, replicate, set, getD}
 use Rattle.lemmas.specs.First.{firstAt}
 use Rattle.span.specs.declared.Range.{Range}
 use Rattle.span.specs.Range.{unitExponent, regionOf, meetsOf}
@@ -16,9 +17,13 @@ use Rattle.atc.specs.declared.Found.the-variants.{Hit, Miss}
 abbrev pub nothing : Entry
 nothing = record { used = false; r = false; w = false; n = false; u = false; unit = 0; to = 0 }
 
--- 32 free slots; emptying leaves the hand where it stands
-abbrev pub emptied : ℕ → Cache
-emptied hand = record { hand = hand; slots = replicate 32 nothing }
+-- 32 free slots, and the hand at the first
+abbrev pub blank : Cache
+blank = record { hand = 0; slots = replicate 32 nothing }
+
+-- emptying leaves the hand where it stands
+abbrev pub emptied : Cache → Cache
+emptied c = record { hand = c .hand; slots = replicate 32 nothing }
 
 -- is this the entry of a unit, given by its address?
 abbrev pub holds : ℕ → Entry → Bool
@@ -37,9 +42,12 @@ freeSlot slots = firstAt isFree slots
 abbrev pub slotAt : List Entry → ℕ → Entry
 slotAt slots i = getD slots i nothing
 
+abbrev pub entryAt : Cache → ℕ → Entry
+entryAt c i = slotAt (c .slots) i
+
 -- the entry of a unit
-unfoldable pub found : List Entry → ℕ → Found
-found slots unit = cond (ltb (slotOf slots unit) 32) (Hit (slotAt slots (slotOf slots unit))) Miss
+unfoldable pub found : Cache → ℕ → Found
+found c unit = cond (ltb (slotOf (c .slots) unit) 32) (Hit (entryAt c (slotOf (c .slots) unit))) Miss
 
 -- slot i and the hand are set, and nothing else
 abbrev pub put : Cache → ℕ → Entry → ℕ → Cache
@@ -61,9 +69,17 @@ unitDropped unit c = cond (ltb (slotOf (c .slots) unit) 32) (put c (slotOf (c .s
 abbrev pub touches : ℕ → Range → Entry → Bool
 touches stu range e = e .used && meetsOf (regionOf (e .unit) (unitExponent stu)) range
 
-abbrev pub cut : ℕ → Range → Entry → Entry
-cut stu range e = cond (touches stu range e) nothing e
+abbrev pub entryDropped : ℕ → Range → Entry → Entry
+entryDropped stu range e = cond (touches stu range e) nothing e
+
+abbrev pub slotsDropped : ℕ → Range → List Entry → List Entry
+slotsDropped stu range slots = map (entryDropped stu range) slots
 
 -- every entry that overlaps a range is deleted
-unfoldable pub spanDropped : ℕ → Range → List Entry → List Entry
-spanDropped stu range slots = map (cut stu range) slots
+unfoldable pub rangeDropped : ℕ → Range → Cache → Cache
+rangeDropped stu range c = record { hand = c .hand; slots = slotsDropped stu range (c .slots) }
+
+-- 32 slots, and at most one entry a unit: two used slots are never of the same one
+pub record SoundCache (c : Cache) : Type 0 where
+  pub slots : length (c .slots) ≡ 32
+  pub single : (i j : ℕ) → entryAt c i .used ≡ true → entryAt c j .used ≡ true → entryAt c i .unit ≡ entryAt c j .unit → i ≡ j

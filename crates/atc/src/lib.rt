@@ -1,8 +1,8 @@
-// The translation cache: 32 slots of one unit each, and the hand.
+// The translation cache, behind its operations. Inside are 32 slots of one unit each, and the hand.
 use span::Range;
 ghost use mathlib.Core.Path.{_≡_};
 ghost use Rattle.lemmas.specs.First.{firstAt};
-ghost use Rattle.atc.specs.Cache.{nothing, holds, isFree, emptied, found, filled, unitDropped, touches, cut, spanDropped};
+ghost use Rattle.atc.specs.Cache.{nothing, holds, isFree, blank, emptied, slotAt, entryAt, found, filled, unitDropped, touches, slotsDropped, rangeDropped};
 
 // One slot. A free one holds nothing else.
 pub struct Entry {
@@ -16,8 +16,8 @@ pub struct Entry {
 }
 
 pub struct Cache {
-    pub hand: u32,
-    pub slots: [Entry; 32],
+    hand: u32,
+    slots: [Entry; 32],
 }
 
 pub enum Found {
@@ -39,14 +39,46 @@ fn free_slot() -> Entry
     }
 }
 
-// No entry is left, and the hand stays.
-pub fn empty(hand: u32) -> Cache
-    ensures { λ r. ⌜ r ≡ emptied hand ⌝ }
+// No entry, and the hand at slot 0.
+pub fn new() -> Cache
+    ensures { λ r. ⌜ r ≡ blank ⌝ }
 {
     Cache {
-        hand,
+        hand: 0,
         slots: [free_slot(); 32],
     }
+}
+
+// No entry is left, and the hand stays.
+pub fn empty(mut c: Cache) -> Cache
+    ensures { λ r. ⌜ r ≡ emptied c ⌝ }
+{
+    let slots = [free_slot(); 32];
+    c.slots = slots;
+    c
+}
+
+// There is nothing past the last slot.
+fn slot_at(slots: [Entry; 32], i: usize) -> Entry
+    ensures { λ r. ⌜ r ≡ slotAt slots i ⌝ }
+{
+    if i < 32 { slots[i] } else { free_slot() }
+}
+
+// What slot i holds.
+pub fn entry_at(c: Cache, i: usize) -> Entry
+    ensures { λ r. ⌜ r ≡ entryAt c i ⌝ }
+{
+    let slots = c.slots;
+    slot_at(slots, i)
+}
+
+// How many entries gave way to others since the reset: the hand, which wraps at 2^32.
+pub fn evictions(c: Cache) -> u32
+    ensures { λ r. ⌜ r ≡ c .hand ⌝ }
+{
+    let count = c.hand;
+    count
 }
 
 fn is_of(e: Entry, unit: u64) -> bool
@@ -84,9 +116,10 @@ fn lowest_free(slots: [Entry; 32]) -> usize
 }
 
 // The entry of a unit.
-pub fn find(slots: [Entry; 32], unit: u64) -> Found
-    ensures { λ r. ⌜ r ≡ found slots unit ⌝ }
+pub fn find(c: Cache, unit: u64) -> Found
+    ensures { λ r. ⌜ r ≡ found c unit ⌝ }
 {
+    let slots = c.slots;
     let at = slot_of(slots, unit);
     if at < 32 {
         Found::Hit(slots[at])
@@ -124,9 +157,9 @@ pub fn drop_unit(mut c: Cache, unit: u64) -> Cache
     ensures { λ r. ⌜ r ≡ unitDropped unit c ⌝ }
 {
     let slots = c.slots;
-    let i = slot_of(slots, unit);
-    if i < 32 {
-        c.slots[i] = free_slot();
+    let own_slot = slot_of(slots, unit);
+    if own_slot < 32 {
+        c.slots[own_slot] = free_slot();
     }
     c
 }
@@ -141,9 +174,8 @@ fn is_in(e: Entry, stu: u8, range: Range) -> bool
     }
 }
 
-// Every entry whose unit meets a range is deleted.
-pub fn drop_span(mut slots: [Entry; 32], stu: u8, range: Range) -> [Entry; 32]
-    ensures { λ r. ⌜ r ≡ spanDropped stu range slots ⌝ }
+fn drop_slots(mut slots: [Entry; 32], stu: u8, range: Range) -> [Entry; 32]
+    ensures { λ r. ⌜ r ≡ slotsDropped stu range slots ⌝ }
 {
     let mut i: usize = 0;
     while i < 32 {
@@ -154,4 +186,14 @@ pub fn drop_span(mut slots: [Entry; 32], stu: u8, range: Range) -> [Entry; 32]
         i += 1;
     }
     slots
+}
+
+// Every entry whose unit overlaps a range is deleted.
+pub fn drop_range(mut c: Cache, stu: u8, range: Range) -> Cache
+    ensures { λ r. ⌜ r ≡ rangeDropped stu range c ⌝ }
+{
+    let slots = c.slots;
+    let left = drop_slots(slots, stu, range);
+    c.slots = left;
+    c
 }

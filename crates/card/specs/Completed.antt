@@ -52,11 +52,11 @@ module _ (f : Function) (bytes out : List ℕ) (c : Completion) (comes : Complet
 
   -- a unit outside the range of its request gets no entry: it keeps its own, or loses it
   pub completion-outside : Sound f → (unit : ℕ) → ((q : Tr) → heldAt (f .places) (c .tag) ≡ Ask q → Inside (rangeOf q) unit → ⊥)
-      → (found (after .cache .slots) unit ≡ found (f .cache .slots) unit) ⊎ (found (after .cache .slots) unit ≡ Miss)
+      → (found (after .cache) unit ≡ found (f .cache) unit) ⊎ (found (after .cache) unit ≡ Miss)
   completion-outside h unit outside =
-      ended-in (λ g. (found (g .cache .slots) unit ≡ found (f .cache .slots) unit) ⊎ (found (g .cache .slots) unit ≡ Miss)) f out (calling f Receive bytes out) (inl refl)
-      (does-received _ (completed-keeps f c (payloadIn bytes) (λ k l p. (found (k .slots) unit ≡ found (f .cache .slots) unit) ⊎ (found (k .slots) unit ≡ Miss)) (λ o. inl refl)
-      (λ q o e live. applied-outside q (payloadIn bytes) (f .cache) (h .cache .slots) (h .cache .single) unit (outside q e))))
+      ended-in (λ g. (found (g .cache) unit ≡ found (f .cache) unit) ⊎ (found (g .cache) unit ≡ Miss)) f out (calling f Receive bytes out) (inl refl)
+      (does-received _ (completed-keeps f c (payloadIn bytes) (λ k l p. (found k unit ≡ found (f .cache) unit) ⊎ (found k unit ≡ Miss)) (λ o. inl refl)
+      (λ q o e live. applied-outside q (payloadIn bytes) (f .cache) (h .cache) unit (outside q e))))
 
   -- a completion for a read, not refused, that is not merely a part of it
   module _ (r : Fetch) (held : heldAt (f .places) (c .tag) ≡ Read r) (w : Word) (says : step f Receive bytes out .says ≡ gives w) (ends : w ≡ payloadMore → ⊥) where

@@ -15,8 +15,8 @@ use Rattle.atc.specs.declared.Entry.{Entry}
 use Rattle.atc.specs.declared.Cache.{Cache}
 use Rattle.atc.specs.declared.Found.{Found}
 use Rattle.atc.specs.declared.Found.the-variants.{Hit, Miss}
-use Rattle.atc.specs.Cache.{nothing, emptied, found, slotAt, touches}
-use Rattle.atc.specs.Laws.{Single, empty-long, empty-slot, empty-single, found-is, found-only, span-slot, span-long, span-single}
+use Rattle.atc.specs.Cache.{nothing, found, entryAt, touches, SoundCache}
+use Rattle.atc.specs.Laws.{laws}
 use Rattle.tags.specs.declared.Open.the-variants.{Ask}
 use Rattle.tags.specs.declared.Place.{Place}
 use Rattle.tags.specs.declared.Tr.{Tr}
@@ -25,9 +25,9 @@ use Rattle.tags.specs.Laws.{placed-long, snooped-long, staled-long}
 use Rattle.pages.specs.declared.Group.{Group}
 use Rattle.pages.specs.declared.Pages.{Pages}
 use Rattle.pages.specs.Pages.{closedAll, used, switchedOff, switchedOn, stopped}
-use Rattle.pages.specs.Laws.{none-used, none-long, close-long, close-used, join-long, join-fits}
+use Rattle.pages.specs.Laws.{none-used, none-long, close-long, close-le, join-long, join-fits}
 use Rattle.replies.specs.declared.Rcb.{Rcb}
-use Rattle.replies.specs.Laws.{Brought, applied-single, applied-slot}
+use Rattle.replies.specs.Laws.{Brought, applied-sound, applied-entry}
 use Rattle.state.specs.declared.Function.{Function}
 use Rattle.state.specs.State.{rcbOf, fresh}
 use Rattle.completions.specs.Translations.{isLive}
@@ -37,18 +37,13 @@ use Rattle.card.specs.Tables.{Completing, Stable, step-keeps}
 
 -- ---- sound tables
 
--- 32 slots and at most one entry a unit
-pub record SoundCache (c : Cache) : Type 0 where
-  pub slots : length (c .slots) ≡ 32
-  pub single : Single (c .slots)
-
 -- 32 groups, and no more credits in use than the allocation, which is 512 at most
 pub record SoundPages (p : Pages) : Type 0 where
   pub groups : length (p .groups) ≡ 32
   pub granted : p .allocation ≤ 512
   pub within : used (p .groups) ≤ p .allocation
 
--- both, and 32 tags
+-- a sound cache, 32 tags and sound pages
 pub record SoundTables (c : Cache) (places : List Place) (p : Pages) : Type 0 where
   pub cache : SoundCache c
   pub tags : length places ≡ 32
@@ -57,15 +52,12 @@ pub record SoundTables (c : Cache) (places : List Place) (p : Pages) : Type 0 wh
 abbrev pub Sound : Function → Type 0
 Sound f = SoundTables (f .cache) (f .places) (f .pages)
 
-empty-sound : (hand : ℕ) → SoundCache (emptied hand)
-empty-sound hand = record { slots = empty-long hand; single = empty-single hand }
-
 closed-sound : (p : Pages) → p .groups ≡ closedAll → p .allocation ≤ 512 → SoundPages p
 closed-sound p none few = record { groups = rw none none-long; granted = few; within = rw (none, none-used) (omega arith) }
 
 -- a Function that is new, or was reset, is sound,
 pub fresh-sound : (id stu : ℕ) (rcb : Rcb) → Sound (fresh id stu rcb)
-fresh-sound id stu rcb = record { cache = empty-sound 0; tags = refl; pages = closed-sound switchedOff refl (lit≤ tt) }
+fresh-sound id stu rcb = record { cache = laws .new-sound; tags = refl; pages = closed-sound switchedOff refl (lit≤ tt) }
 
 -- and every call keeps it so
 pub sound-kept : (f : Function) (c : Command) (bytes out : List ℕ) → Sound f → Sound (step f c bytes out .state)
@@ -82,15 +74,15 @@ sound-kept f c bytes out h = step-keeps f c bytes SoundTables kept out
         record {
           same = h;
           reset = fresh-sound 0 0 (rcbOf 64);
-          enable = record { cache = empty-sound (f .cache .hand); tags = staled-long (f .places) ∙ h .tags; pages = h .pages };
+          enable = record { cache = laws .empty-sound (f .cache); tags = staled-long (f .places) ∙ h .tags; pages = h .pages };
           place = λ t o. record { cache = h .cache; tags = placed-long (f .places) t o ∙ h .tags; pages = h .pages };
-          fill = λ x q o r e live. let s = applied-single q (payloadIn bytes) (f .cache) (h .cache .slots) (h .cache .single) in record { cache = record { slots = s .0; single = s .1 }; tags = placed-long (f .places) (x .tag) o ∙ h .tags; pages = h .pages };
-          snoop = λ range i. record { cache = record { slots = span-long (f .stu) range (f .cache .slots) (h .cache .slots); single = span-single (f .stu) range (f .cache .slots) (h .cache .single) }; tags = snooped-long (f .places) range i ∙ h .tags; pages = h .pages };
+          fill = λ x q o r e live. record { cache = applied-sound q (payloadIn bytes) (f .cache) (h .cache); tags = placed-long (f .places) (x .tag) o ∙ h .tags; pages = h .pages };
+          snoop = λ range i. record { cache = laws .range-sound (f .stu) range (f .cache) (h .cache); tags = snooped-long (f .places) range i ∙ h .tags; pages = h .pages };
           switchOn = λ allocation g. record { cache = h .cache; tags = h .tags; pages = closed-sound (switchedOn allocation) refl (leb-true allocation 512 (and-both (leb 1 allocation) (leb allocation 512) g .1)) };
           switchOff = record { cache = h .cache; tags = h .tags; pages = closed-sound switchedOff refl (lit≤ tt) };
           stop = record { cache = h .cache; tags = h .tags; pages = closed-sound stopped refl (lit≤ tt) };
           request = λ q some. record { cache = h .cache; tags = h .tags; pages = record { groups = join-long groups all (q .index) (q .last); granted = h .pages .granted; within = join-fits groups all (q .index) (q .last) (f .pages .allocation) (omega (arith, h .pages .granted)) some } };
-          answer = λ k. record { cache = h .cache; tags = h .tags; pages = record { groups = close-long groups all k; granted = h .pages .granted; within = omega (arith, close-used groups all k, h .pages .within) } };
+          answer = λ k. record { cache = h .cache; tags = h .tags; pages = record { groups = close-long groups all k; granted = h .pages .granted; within = omega (arith, close-le groups all k, h .pages .within) } };
         }
 
 -- ---- what comes into the cache
@@ -105,25 +97,25 @@ pub record Came (f : Function) (c : Command) (bytes : List ℕ) (e : Entry) : Ty
   pub brought : Brought request (payloadIn bytes) e
 
 module _ (f : Function) (c : Command) (bytes out : List ℕ) where
-  abbrev after : List Entry
-  after = step f c bytes out .state .cache .slots
+  abbrev after : Cache
+  after = step f c bytes out .state .cache
 
   -- after a call each slot holds what it held, or nothing, or what came so
-  pub slot-after : length (f .cache .slots) ≡ 32 → (i : ℕ) → (slotAt after i ≡ slotAt (f .cache .slots) i) ⊎ ((slotAt after i ≡ nothing) ⊎ Came f c bytes (slotAt after i))
-  slot-after all i = step-keeps f c bytes (λ d l p. From (slotAt (d .slots) i)) kept out
+  pub slot-after : SoundCache (f .cache) → (i : ℕ) → (entryAt after i ≡ entryAt (f .cache) i) ⊎ ((entryAt after i ≡ nothing) ⊎ Came f c bytes (entryAt after i))
+  slot-after sound i = step-keeps f c bytes (λ d l p. From (entryAt d i)) kept out
     where
       From : Entry → Type 0
-      From x = (x ≡ slotAt (f .cache .slots) i) ⊎ ((x ≡ nothing) ⊎ Came f c bytes x)
+      From x = (x ≡ entryAt (f .cache) i) ⊎ ((x ≡ nothing) ⊎ Came f c bytes x)
 
-      kept : Stable f c bytes (λ d l p. From (slotAt (d .slots) i))
+      kept : Stable f c bytes (λ d l p. From (entryAt d i))
       kept =
           record {
             same = inl refl;
-            reset = inr (inl (empty-slot 0 i));
-            enable = inr (inl (empty-slot (f .cache .hand) i));
+            reset = inr (inl (laws .new-entry i));
+            enable = inr (inl (laws .empty-entry (f .cache) i));
             place = λ t o. inl refl;
-            fill = λ x q o r e live. ⊎-elim inl (λ s. inr (⊎-elim inl (λ b. inr (record { completion = x; comes = r; request = q; held = e; live = live; brought = b })) s)) (applied-slot q (payloadIn bytes) (f .cache) all i);
-            snoop = λ range itag. rw (span-slot (f .stu) range (f .cache .slots) i) (byCases (touches (f .stu) range (slotAt (f .cache .slots) i)) (λ u. rw u (inr (inl refl))) (λ u. rw u (inl refl)));
+            fill = λ x q o r e live. ⊎-elim inl (λ s. inr (⊎-elim inl (λ b. inr (record { completion = x; comes = r; request = q; held = e; live = live; brought = b })) s)) (applied-entry q (payloadIn bytes) (f .cache) sound i);
+            snoop = λ range itag. rw (laws .range-entry (f .stu) range (f .cache) sound i) (byCases (touches (f .stu) range (entryAt (f .cache) i)) (λ u. rw u (inr (inl refl))) (λ u. rw u (inl refl)));
             switchOn = λ allocation g. inl refl;
             switchOff = inl refl;
             stop = inl refl;
@@ -132,19 +124,20 @@ module _ (f : Function) (c : Command) (bytes out : List ℕ) where
           }
 
   -- so that each unit has the entry that it had, or none, or one that came so
-  pub entry-after : Sound f → (unit : ℕ) → (found after unit ≡ found (f .cache .slots) unit) ⊎ ((found after unit ≡ Miss) ⊎ ((x : Entry) × ((found after unit ≡ Hit x) × Came f c bytes x)))
+  pub entry-after : Sound f → (unit : ℕ) → (found after unit ≡ found (f .cache) unit) ⊎ ((found after unit ≡ Miss) ⊎ ((x : Entry) × ((found after unit ≡ Hit x) × Came f c bytes x)))
   entry-after h unit = go (found after unit) refl
     where
-      go : (r : Found) → found after unit ≡ r → (found after unit ≡ found (f .cache .slots) unit) ⊎ ((found after unit ≡ Miss) ⊎ ((x : Entry) × ((found after unit ≡ Hit x) × Came f c bytes x)))
+      go : (r : Found) → found after unit ≡ r → (found after unit ≡ found (f .cache) unit) ⊎ ((found after unit ≡ Miss) ⊎ ((x : Entry) × ((found after unit ≡ Hit x) × Came f c bytes x)))
       go Miss e = inr (inl e)
       go (Hit x) e =
-          let s = found-is after (sound-kept f c bytes out h .cache .slots) unit x e in
+          let s = laws .found-is after (sound-kept f c bytes out h .cache) unit x e in
           let i = s .2 .0 in
-          let there : slotAt after i ≡ x = s .2 .2 in
+          let there : entryAt after i ≡ x = s .2 .1 in
           ⊎-elim
-          (λ a. let old : slotAt (f .cache .slots) i ≡ x = sym a ∙ there in
-          inl (e ∙ sym (found-only (f .cache .slots) (h .cache .slots) unit (h .cache .single) i (rw old (s .0)) (rw old (s .1)) ∙ ap Hit old)))
+          (λ a. let old : entryAt (f .cache) i ≡ x = sym a ∙ there in
+          let was : found (f .cache) (x .unit) ≡ Hit x = rw old at (laws .found-only (f .cache) (h .cache) i (rw old (s .0))) in
+          inl (e ∙ sym (ap (found (f .cache)) (sym (s .1)) ∙ was)))
           (⊎-elim
           (λ a. let none : x ≡ nothing = sym there ∙ a in absurd (never-both _ (s .0) (rw none)))
           (λ a. inr (inr (x, (e, rw there at a)))))
-          (slot-after (h .cache .slots) i)
+          (slot-after (h .cache) i)

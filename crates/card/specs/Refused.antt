@@ -12,7 +12,6 @@ use Rattle.packet.specs.declared.Packet.{Packet}
 use Rattle.packet.specs.declared.Body.{Body}
 use Rattle.packet.specs.declared.Body.the-variants.{Tr, Mem, Cpl, Inv, Ic, Prq, Prs}
 use Rattle.packet.specs.declared.Tag.{Tag}
-use Rattle.packet.specs.declared.Access.the-variants.{Read as ReadOf}
 use Rattle.packet.specs.declared.PageRequest.{PageRequest}
 use Rattle.packet.specs.declared.Completion.{Completion}
 use Rattle.packet.specs.declared.Outcome.{Outcome}
@@ -26,6 +25,8 @@ use Rattle.atc.specs.declared.Found.{Found}
 use Rattle.atc.specs.declared.Found.the-variants.{Hit, Miss}
 use Rattle.tags.specs.declared.Open.{Open}
 use Rattle.tags.specs.declared.Open.the-variants.{Free, Ask, Read}
+use Rattle.tags.specs.declared.FreeTag.{FreeTag}
+use Rattle.tags.specs.declared.FreeTag.the-variants.{Lowest, NoneFree}
 use Rattle.tags.specs.Tags.{freeTag}
 use Rattle.pages.specs.declared.Interface.{Interface}
 use Rattle.pages.specs.declared.Interface.the-variants.{Off, On, Stopped}
@@ -44,8 +45,8 @@ use Rattle.state.specs.Switches.{resetting, enabling, disabling, switchingOn, s
 use Rattle.accesses.specs.declared.Way.{Way}
 use Rattle.accesses.specs.declared.Way.the-variants.{Read as ToRead, Write as ToWrite}
 use Rattle.accesses.specs.declared.Target.{Target}
-use Rattle.asks.specs.Ask.{isAskable, requestOf, asking, few-units}
-use Rattle.accesses.specs.Access.{enteredBy, lookingUp, memoryOf, going, goingIf, accessing}
+use Rattle.asks.specs.Ask.{isAskable, requestOf, askOn, asking, few-units}
+use Rattle.accesses.specs.Access.{enteredBy, lookingUp, readOn, going, goingIf, accessing}
 use Rattle.accesses.specs.Laws.{Reached, reached}
 use Rattle.drains.specs.Drain.{completionFrom, readyOf, sendingVector, draining}
 use Rattle.requests.specs.PageRequests.{pageOf, isAsked, requestingOn, requesting}
@@ -98,12 +99,16 @@ switchingOff-numbers f Stopped = search among
 
 asking-numbers : (f : Function) (a : Asking) (out : List ℕ) → Among (6 ∷ 12 ∷ 11 ∷ 17 ∷ []) (asking f a out)
 unfolding asking
-asking-numbers f a out = search (among, sending-numbers, fit)
+asking-numbers f a out = search (among, on)
   where
     fit : (tag : Tag) → isAskable (f .rcb) (f .stu) a ≡ true → Sendable (requestOf (f .id) tag a) 0
     fit tag e =
         let few = few-units (f .rcb) (f .stu) a e in
         tr-sendable (headOf (f .id)) refl _ (omega arith) (omega (arith, few .0)) (omega (arith, few .1)) (omega arith)
+
+    on : (x : FreeTag) → isAskable (f .rcb) (f .stu) a ≡ true → Among (6 ∷ 12 ∷ 11 ∷ 17 ∷ []) (askOn f x a out)
+    on (Lowest t) e = search (among, sending-numbers, fit)
+    on NoneFree e = search among
 
 entering-numbers : (way : Way) (stu address : ℕ) (entry : Found) → Among (6 ∷ 12 ∷ 13 ∷ 14 ∷ []) (enteredBy way stu address entry)
 entering-numbers way stu address Miss = search among
@@ -114,10 +119,11 @@ unfolding lookingUp
 lookingUp-numbers f a load = search (among, entering-numbers)
 
 going-numbers : (f : Function) (way : Way) (at : Target) (a : Accessing) (load out : List ℕ) → Reached way (a .words) (length load) at → Among (11 ∷ 17 ∷ []) (going f way at a load out)
-going-numbers f ToRead at a load out h = search (among, sending-numbers, fit)
+going-numbers f ToRead at a load out h = on (freeTag (f .places))
   where
-    fit : Sendable (memoryOf (f .id) (ReadOf (freeTag (f .places))) (a .words) at) (length load)
-    fit = rw (h .fills) (read-sendable (headOf (f .id)) refl (a .words) (at .address) (at .translated) (h .some) (h .few) (h .dword) (freeTag (f .places)))
+    on : (x : FreeTag) → Among (11 ∷ 17 ∷ []) (readOn f x at a load out)
+    on (Lowest t) = sending-numbers _ _ _ _ load out refl (rw (h .fills) (read-sendable (headOf (f .id)) refl (a .words) (at .address) (at .translated) (h .some) (h .few) (h .dword) t))
+    on NoneFree = search among
 going-numbers f ToWrite at a load out h =
     sending-numbers _ _ _ _ load out refl (write-sendable (headOf (f .id)) refl (a .words) (at .address) (at .translated) (h .some) (h .few) (h .dword) (length load) (h .fills))
 

@@ -17,12 +17,14 @@ use Rattle.packet.specs.declared.InvalidateRequest.{InvalidateRequest}
 use Rattle.packet.specs.Numbers.{Said, gives, number}
 use Rattle.packet.specs.Reading.{reading, payloadIn}
 use Rattle.atc.specs.declared.Cache.{Cache}
-use Rattle.atc.specs.Cache.{emptied}
+use Rattle.atc.specs.Cache.{blank, emptied, rangeDropped}
 use Rattle.tags.specs.declared.Open.{Open}
 use Rattle.tags.specs.declared.Open.the-variants.{Ask}
 use Rattle.tags.specs.declared.Tr.{Tr as Request}
 use Rattle.tags.specs.declared.Place.{Place}
-use Rattle.tags.specs.Tags.{emptyPlaces, heldAt, placed, snooped, allStaled}
+use Rattle.tags.specs.declared.FreeTag.{FreeTag}
+use Rattle.tags.specs.declared.FreeTag.the-variants.{Lowest, NoneFree}
+use Rattle.tags.specs.Tags.{emptyPlaces, freeTag, heldAt, placed, snooped, allStaled}
 use Rattle.pages.specs.declared.Interface.{Interface}
 use Rattle.pages.specs.declared.Interface.the-variants.{Off, On, Stopped}
 use Rattle.pages.specs.declared.Pages.{Pages}
@@ -38,14 +40,14 @@ use Rattle.state.specs.Laws.{Does, does, ended-in}
 use Rattle.accesses.specs.declared.Way.{Way}
 use Rattle.accesses.specs.declared.Way.the-variants.{Read as ToRead, Write as ToWrite}
 use Rattle.accesses.specs.declared.Target.{Target}
-use Rattle.asks.specs.Ask.{asking}
-use Rattle.accesses.specs.Access.{lookingUp, going, goingIf, accessing}
+use Rattle.asks.specs.Ask.{askOn, asking}
+use Rattle.accesses.specs.Access.{lookingUp, readOn, going, goingIf, accessing}
 use Rattle.drains.specs.Drain.{sendingVector, draining}
 use Rattle.requests.specs.PageRequests.{requested, requestingOn, requesting}
 use Rattle.completions.specs.Completions.{completed}
 use Rattle.completions.specs.Laws.{completed-keeps}
 use Rattle.completions.specs.Translations.{isLive}
-use Rattle.snoops.specs.Invalidate.{cut, invalidated}
+use Rattle.snoops.specs.Invalidate.{invalidated}
 use Rattle.receives.specs.Responses.{answeredIn, respondedOn, responded}
 use Rattle.receives.specs.Receive.{taken, takenIf, received}
 use Rattle.card.specs.declared.Command.{Command}
@@ -62,15 +64,15 @@ pub record Completing (c : Command) (bytes : List ℕ) (x : Completion) : Type 0
 -- P holds of the tables as they are, and after each change that the call can make to them; bytes is the packet received.
 pub record Stable (f : Function) (c : Command) (bytes : List ℕ) (P : Cache → List Place → Pages → Type 0) : Type 0 where
   pub same : P (f .cache) (f .places) (f .pages)
-  pub reset : P (emptied 0) emptyPlaces switchedOff
+  pub reset : P blank emptyPlaces switchedOff
   -- E set
-  pub enable : P (emptied (f .cache .hand)) (allStaled (f .places)) (f .pages)
+  pub enable : P (emptied (f .cache)) (allStaled (f .places)) (f .pages)
   -- a tag opened, freed, or open for less
   pub place : (t : Tag) (o : Open) → P (f .cache) (placed (f .places) t o) (f .pages)
   -- a completion for a Translation Request that is live
   pub fill : (x : Completion) (q : Request) (o : Open) → Completing c bytes x → heldAt (f .places) (x .tag) ≡ Ask q → isLive f q ≡ true → P (applied q (payloadIn bytes) (f .cache)) (placed (f .places) (x .tag) o) (f .pages)
   -- an Invalidate Request
-  pub snoop : (range : Range) (i : ITag) → P (cut (f .cache) (f .stu) range) (snooped range i (f .places)) (f .pages)
+  pub snoop : (range : Range) (i : ITag) → P (rangeDropped (f .stu) range (f .cache)) (snooped range i (f .places)) (f .pages)
   -- the page interface on, off, stopped, a request more and a group answered
   pub switchOn : (allocation : ℕ) → isGranted allocation ≡ true → P (f .cache) (f .places) (switchedOn allocation)
   pub switchOff : P (f .cache) (f .places) switchedOff
@@ -108,10 +110,18 @@ module _ (f : Function) (c : Command) (bytes : List ℕ) (P : Cache → List Pla
 
   asks : (a : Asking) (out : List ℕ) → Does Over (asking f a out)
   unfolding asking
-  asks a out = search (does, k .place)
+  asks a out = search (does, on)
+    where
+      on : (x : FreeTag) → Does Over (askOn f x a out)
+      on (Lowest t) = search (does, k .place)
+      on NoneFree = search does
 
   goes : (way : Way) (at : Target) (a : Accessing) (load out : List ℕ) → Does Over (going f way at a load out)
-  goes ToRead at a load out = search (does, k .place)
+  goes ToRead at a load out = on (freeTag (f .places))
+    where
+      on : (x : FreeTag) → Does Over (readOn f x at a load out)
+      on (Lowest t) = search (does, k .place)
+      on NoneFree = search does
   goes ToWrite at a load out = search (does, k .same)
 
   accesses : (a : Accessing) (load out : List ℕ) → Does Over (accessing f a load out)

@@ -14,7 +14,7 @@ use Rattle.replies.specs.declared.Part.the-variants.{Misfit, Off, First, Last}
 use Rattle.replies.specs.Fits.{judged}
 use Rattle.replies.specs.Fills.{applied, afterFirst}
 use Rattle.state.specs.declared.Function.{Function}
-use Rattle.state.specs.State.{withEnable, withPlace, withTables}
+use Rattle.state.specs.State.{withEnable, withCache, withPlace}
 use Rattle.state.specs.Answers.{Word, Deed, discarded, more, filled, aborted, switchedOff, plainly}
 
 -- no data: status 000 does not fit; 100 frees the tag; any other clears E too
@@ -33,7 +33,7 @@ isLive f q = f .enabled && not (q .stale)
 unfoldable pub settled : Function → Tag → Tr → List ℕ → Open → Word → Said Deed
 settled f t q load o w =
     cond (isLive f q)
-    (plainly (withTables f (applied q load (f .cache)) (placed (f .places) t o)) w)
+    (plainly (withPlace (withCache f (applied q load (f .cache))) t o) w)
     (plainly (withPlace f t o) discarded)
 
 -- the only packet off the boundary is discarded unread; "more" after a first of two, "filled" at the end

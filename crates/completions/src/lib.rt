@@ -12,8 +12,8 @@ use tags::Open;
 use tags::Tr;
 ghost use mathlib.Core.Path.{_≡_};
 ghost use mathlib.Core.List.{[]};
-ghost use mathlib.Core.Bool.{false, not, _&&_};
-ghost use Rattle.state.specs.State.{withPlace, withEnable, withTables};
+ghost use mathlib.Core.Bool.{not, _&&_};
+ghost use Rattle.state.specs.State.{withPlace, withCache};
 ghost use Rattle.state.specs.Answers.{told, ended};
 ghost use Rattle.replies.specs.Fills.{applied};
 ghost use Rattle.completions.specs.Reads.{stillDue, fetched, unfetched};
@@ -27,16 +27,11 @@ fn free(f: Function, t: Tag) -> Function
     state::with_place(f, t, none)
 }
 
-fn part_of_read(r: Fetch, due: u16) -> Open
+fn part_of_read(mut r: Fetch, due: u16) -> Open
     ensures { λ o. ⌜ o ≡ Open.Read (stillDue r due) ⌝ }
 {
-    Open::Read(Fetch {
-        address: r.address,
-        bytes: r.bytes,
-        due,
-        translated: r.translated,
-        itags: r.itags,
-    })
+    r.due = due;
+    Open::Read(r)
 }
 
 fn take_data(f: Function, t: Tag, r: Fetch, count: u16, bytes: usize) -> Effect
@@ -66,13 +61,6 @@ fn end_read(f: Function, t: Tag, status: u8) -> Effect
     }
 }
 
-fn switch_off(mut f: Function) -> Function
-    ensures { λ r. ⌜ r ≡ withEnable f false ⌝ }
-{
-    f.enabled = false;
-    f
-}
-
 fn end_ask(f: Function, t: Tag, status: u8) -> Effect
     ensures { λ e. ⌜ told e [] ≡ ended f [] (untranslated f t status) ⌝ }
 {
@@ -82,7 +70,7 @@ fn end_ask(f: Function, t: Tag, status: u8) -> Effect
     if status == 4 {
         state::answered(free(f, t), Answer::Aborted)
     } else {
-        state::answered(switch_off(free(f, t)), Answer::SwitchedOff)
+        state::answered(state::with_enable(free(f, t), false), Answer::SwitchedOff)
     }
 }
 
@@ -98,13 +86,12 @@ fn is_live(enabled: bool, stale: bool) -> bool
 }
 
 // The entries that a completion makes.
-fn fill(mut f: Function, q: Tr, load: &[u8]) -> Function
-    ensures { λ r. ⌜ r ≡ withTables f (applied q (now (load .entry)) (f .cache)) (f .places) ⌝ }
+fn fill(f: Function, q: Tr, load: &[u8]) -> Function
+    ensures { λ r. ⌜ r ≡ withCache f (applied q (now (load .entry)) (f .cache)) ⌝ }
 {
     let cache = f.cache;
     let next = replies::apply(cache, q, load);
-    f.cache = next;
-    f
+    state::with_cache(f, next)
 }
 
 // A first packet of two that fits.

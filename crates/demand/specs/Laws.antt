@@ -55,7 +55,7 @@ pub record Step {T : Terms} (tags : ℕ) (v w : View T) (x : Seen T) : Type 0 wh
   pub unused : (t : ℕ) → uses t (x .sent) ≡ true → (t < tags) × (v .opens t ≡ none)
   pub live : (t : ℕ) → w .live t ≡ true → (v .live t ≡ true) ⊎ (uses t (x .sent) ≡ true)
   -- the cache
-  pub slots : (j : ℕ) (e : T .Entry) → w .held j ≡ some e → (v .held j ≡ some e) ⊎ (fills v (x .took) e ≡ true)
+  pub entries : (j : ℕ) (e : T .Entry) → w .held j ≡ some e → (v .held j ≡ some e) ⊎ (fills v (x .took) e ≡ true)
   pub through : (b : T .Access) (k : ℕ) → reaches (x .sent) ≡ some (b, k) → Through v b k
   -- the ITags
   pub waiting : (i : Ticket) → w .waiting i ≡ given (accepts i (x .took)) (λ a. true) (not (completes i (x .sent)) && v .waiting i)

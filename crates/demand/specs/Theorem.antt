@@ -365,7 +365,7 @@ module _ {T : Terms} {R : Observer T} (M : Machine R) (L : Lawful M) where
 
       came-from : (cs : List (R .Call)) → Unbroken M s cs → (j : ℕ) (e : T .Entry) → T .overlaps a e ≡ true → M .held (after M s cs .fn) j ≡ some e → CameFrom M j e s cs
       came-from [] u j e o p = no-tf (sym o ∙ none-yet j e (sym (L .held s j) ∙ p))
-      came-from (c ∷ cs) u j e o p = go (came-from cs (u .1) j e o) (effect s cs c k u .slots j e (sym (L .held (next M (after M s cs) c) j) ∙ p))
+      came-from (c ∷ cs) u j e o p = go (came-from cs (u .1) j e o) (effect s cs c k u .entries j e (sym (L .held (next M (after M s cs) c) j) ∙ p))
         where
           go : (M .held (after M s cs .fn) j ≡ some e → CameFrom M j e s cs)
               → (L .view (after M s cs) .held j ≡ some e) ⊎ (fills (L .view (after M s cs)) (seen M (after M s cs) c .took) e ≡ true) → CameFrom M j e s (c ∷ cs)

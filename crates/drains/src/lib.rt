@@ -44,7 +44,7 @@ pub fn ready(f: Function) -> u32
 }
 
 // One completion for a vector of ITags, if there are any.
-fn send_vector(mut f: Function, v: u32, out: &mut [u8]) -> Effect
+fn send_vector(f: Function, v: u32, out: &mut [u8]) -> Effect
     ensures { λ r. ⌜ told r (now (out .exit)) ≡ ended f (now (out .entry)) (sendingVector f v (now (out .entry))) ⌝ }
 {
     if v == 0 {
@@ -56,10 +56,10 @@ fn send_vector(mut f: Function, v: u32, out: &mut [u8]) -> Effect
     let p = completion(f.id, agent, v);
     match tlp::write_packet(p, &none, out) {
         Writing::Written(n) => {
-            f.waiting = tags::itags::without(waiting, v);
+            let left = tags::itags::without(waiting, v);
             let answer = Answer::Carried(u32::count_ones(v));
             Effect {
-                state: f,
+                state: state::with_waiting(f, left),
                 answer,
                 sent: n,
             }

@@ -27,7 +27,7 @@ use Rattle.lemmas.specs.Gather.{gather}
 use Rattle.lemmas.specs.Run.{runTo}
 use Rattle.lemmas.specs.All.{allTo}
 use Rattle.tlp.specs.Translations.{translationAt}
-use Rattle.atc.specs.Cache.{found, filled as put, unitDropped, spanDropped}
+use Rattle.atc.specs.Cache.{found, filled as put, unitDropped, rangeDropped}
 use Rattle.tags.specs.declared.Open.the-variants.{Ask as Held}
 use Rattle.tags.specs.Itags.{isIn, joined}
 use Rattle.tags.specs.Tags.{freeTag, heldAt, placed, rangeOf, bytesAsked, touches, snooped as marks, allStaled}
@@ -193,5 +193,5 @@ examples =
     ∷ []
 
 pub examples-hold : Hold examples
-unfolding lowestZero sizeOf bytesCoded translationOf regionOf frameOf choose bodyIn shaped allowedBody withinBody loadOf formOf framed readForm reading bytesOf writing allHex unhex decimal decimalIn lineRead lineText outLine firstAt gather runTo allTo roundedOf reachOf runOf movedTo payloadIn wordAt translationAt found put unitDropped spanDropped isIn joined freeTag heldAt placed rangeOf bytesAsked touches marks allStaled onBoundary firstPart partOf sizeOfAll beginsIn cameOf fitsAt allFit sizeFits judged unitFilled covered unitStep applied sending resetting enabling isBelowTop isAskable asking lookingUp accessing settled translated snoopRange invalidated completed taken received switchingOn isWaiting used isSpent credited requestingOn calling
+unfolding lowestZero sizeOf bytesCoded translationOf regionOf frameOf choose bodyIn shaped allowedBody withinBody loadOf formOf framed readForm reading bytesOf writing allHex unhex decimal decimalIn lineRead lineText outLine firstAt gather runTo allTo roundedOf reachOf runOf movedTo payloadIn wordAt translationAt found put unitDropped rangeDropped isIn joined freeTag heldAt placed rangeOf bytesAsked touches marks allStaled onBoundary firstPart partOf sizeOfAll beginsIn cameOf fitsAt allFit sizeFits judged unitFilled covered unitStep applied sending resetting enabling isBelowTop isAskable asking lookingUp accessing settled translated snoopRange invalidated completed taken received switchingOn isWaiting used isSpent credited requestingOn calling
 examples-hold = (refl, (refl, (refl, (refl, (refl, (refl, (refl, (refl, (refl, (refl, (refl, (refl, (refl, (refl, (refl, (refl, (refl, (refl, (refl, (refl, (refl, (refl, (refl, (refl, (refl, (refl, (refl, (refl, (refl, tt)))))))))))))))))))))))))))))

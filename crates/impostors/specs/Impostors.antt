@@ -27,7 +27,7 @@ use Rattle.lemmas.specs.Run.{runTo}
 use Rattle.lemmas.specs.All.{allTo}
 use Rattle.lemmas.specs.Gather.{gather}
 use Rattle.tlp.specs.Translations.{translationAt}
-use Rattle.atc.specs.Cache.{found, filled as put, unitDropped, spanDropped}
+use Rattle.atc.specs.Cache.{found, filled as put, unitDropped, rangeDropped}
 use Rattle.tags.specs.Itags.{isIn, joined, without}
 use Rattle.tags.specs.Tags.{freeTag, heldAt, placed, rangeOf, bytesAsked, touches, snooped, allStaled, noted}
 use Rattle.replies.specs.Fits.{onBoundary, firstPart as startsPart, secondPart, partOf, sizeOfAll, beginsIn, cameOf, fitsAt, allFit, sizeFits, judged}
@@ -44,7 +44,7 @@ use Rattle.snoops.specs.Invalidate.{snoopRange, invalidated}
 use Rattle.receives.specs.Receive.{taken, received}
 use Rattle.card.specs.Call.{calling}
 use Rattle.atc.specs.declared.Entry.{Entry}
-use Rattle.atc.specs.Cache.{slotAt, nothing, emptied}
+use Rattle.atc.specs.Cache.{entryAt, nothing, emptied}
 use Rattle.tags.specs.declared.Open.{Open}
 use Rattle.tags.specs.declared.Open.the-variants.{Free, Ask as Asking, Read as Reading}
 use Rattle.tags.specs.declared.Fetch.{Fetch}
@@ -52,7 +52,7 @@ use Rattle.tags.specs.declared.Place.{Place}
 use Rattle.tags.specs.Tags.{holding}
 use Rattle.state.specs.declared.Function.{Function}
 use Rattle.state.specs.declared.Agent.the-variants.{Unknown, Known}
-use Rattle.state.specs.State.{fresh, rcbOf, remade, withTables, withPlace}
+use Rattle.state.specs.State.{fresh, rcbOf, withAgent, withCache, withPlaces, withPlace}
 use Rattle.state.specs.Answers.{Result, done, carries, payloadLast}
 use Rattle.accesses.specs.Access.{memoryOf}
 use Rattle.drains.specs.Drain.{completionFrom, readyOf}
@@ -100,17 +100,17 @@ withBuffer r b = record { state = r .state; says = r .says; sent = r .sent; buff
 
 -- it keeps the entries that an Invalidate Request should drop
 abbrev keeper : Function → Call → Result
-keeper f c = let r = honest f c in by (brings c) r (withState r (withTables (r .state) (f .cache) (r .state .places))) r r
+keeper f c = let r = honest f c in by (brings c) r (withState r (withCache (r .state) (f .cache))) r r
 
 -- it drops them, and all others, only when it drains
 abbrev tardy : Function → Call → Result
 tardy f c =
     let r = honest f c in
-    by (brings c) r (withState r (withTables (r .state) (f .cache) (r .state .places))) (withState r (withTables (r .state) (emptied (r .state .cache .hand)) (r .state .places))) r
+    by (brings c) r (withState r (withCache (r .state) (f .cache))) (withState r (withCache (r .state) (emptied (r .state .cache)))) r
 
 -- an Invalidate Request leaves the tags otherwise than it should
 abbrev marking : (Open → Open) → Function → Call → Result
-marking mark f c = let r = honest f c in by (brings c) r (withState r (withTables (r .state) (r .state .cache) (map (λ (p : Place). holding (mark (p .held))) (r .state .places)))) r r
+marking mark f c = let r = honest f c in by (brings c) r (withState r (withPlaces (r .state) (map (λ (p : Place). holding (mark (p .held))) (r .state .places)))) r r
 
 -- it leaves Translation Requests live
 abbrev revived : Open → Open
@@ -242,7 +242,7 @@ anyones f c = given (requester (reading (c .bytes))) (λ id. let r = honest (ren
 
 -- it takes Invalidate Requests from anyone
 abbrev obliging : Function → Call → Result
-obliging f c = by (brings c) (honest f c) (honest (remade f (f .enabled) Unknown (f .waiting) (f .cache) (f .places) (f .pages)) c) (honest f c) (honest f c)
+obliging f c = by (brings c) (honest f c) (honest (withAgent f Unknown) c) (honest f c) (honest f c)
 
 -- one read more: to 10 0000h, translated, with tag 0, whatever the call
 abbrev parting : Result → Result
@@ -294,15 +294,15 @@ oddBy moves writes =
       held = λ x j. heldIn (x .inner) j;
     }
 
--- it keeps an old entry in a drawer, and puts it into slot 1 when a completion comes
+-- it keeps an old entry in a drawer, and puts it back when a completion comes
 abbrev putBack : Function → Entry → Function
-putBack f e = withTables f (record { hand = f .cache .hand; slots = set (f .cache .slots) 1 e }) (f .places)
+putBack f e = withCache f (put e (f .cache))
 
 abbrev drawerMoves : Odd → Call → Odd
 drawerMoves x c =
     let g = honest (x .inner) c .state in
     let same : Odd = record { inner = g; drawer = x .drawer; spent = false } in
-    by (brings c) (record { inner = putBack g (x .drawer); drawer = x .drawer; spent = false }) (record { inner = g; drawer = slotAt (x .inner .cache .slots) 0; spent = false }) same same
+    by (brings c) (record { inner = putBack g (x .drawer); drawer = x .drawer; spent = false }) (record { inner = g; drawer = entryAt (x .inner .cache) 0; spent = false }) same same
 
 abbrev drawerCard : Machine observer
 drawerCard = oddBy drawerMoves (λ x c. honest (x .inner) c .buffer)
@@ -359,7 +359,7 @@ pub record Refused : Type 1 where
   pub shadow : Order shadowCard → ⊥
 
 pub refused : Refused
-unfolding frameOf choose bodyIn shaped allowedBody withinBody loadOf formOf framed readForm reading payloadIn wordAt bytesOf writing regionOf roundedOf reachOf runOf movedTo lowestZero sizeOf translationOf firstAt runTo allTo gather translationAt found put unitDropped spanDropped isIn joined without freeTag heldAt placed rangeOf bytesAsked touches snooped allStaled noted onBoundary startsPart secondPart partOf sizeOfAll beginsIn cameOf fitsAt allFit sizeFits judged unitFilled covered unitStep applied sending resetting enabling disabling isBelowTop isAskable asking lookingUp accessing sendingVector fetched unfetched settled translated untranslated completed snoopRange invalidated taken received calling
+unfolding frameOf choose bodyIn shaped allowedBody withinBody loadOf formOf framed readForm reading payloadIn wordAt bytesOf writing regionOf roundedOf reachOf runOf movedTo lowestZero sizeOf translationOf firstAt runTo allTo gather translationAt found put unitDropped rangeDropped isIn joined without freeTag heldAt placed rangeOf bytesAsked touches snooped allStaled noted onBoundary startsPart secondPart partOf sizeOfAll beginsIn cameOf fitsAt allFit sizeFits judged unitFilled covered unitStep applied sending resetting enabling disabling isBelowTop isAskable asking lookingUp accessing sendingVector fetched unfetched settled translated untranslated completed snoopRange invalidated taken received calling
 refused =
     record {
       keeper = λ d. no-tf (sym (shown (cardBy keeper) d warm request (drain ∷ bothParts ∷ []) (record { arrived = record { unbroken = (refl, (refl, (refl, (refl, (refl, (refl, tt)))))); accepted = refl; goesOn = (refl, (refl, tt)) }; sent = lit< tt }) 0 _ refl refl));

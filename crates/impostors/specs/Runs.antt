@@ -21,7 +21,7 @@ use Rattle.lemmas.specs.All.{allTo}
 use Rattle.lemmas.specs.Gather.{gather}
 use Rattle.tlp.specs.Words.{areBytes}
 use Rattle.tlp.specs.Translations.{translationAt}
-use Rattle.atc.specs.Cache.{found, filled as put, unitDropped, spanDropped}
+use Rattle.atc.specs.Cache.{found, filled as put, unitDropped, rangeDropped}
 use Rattle.tags.specs.Itags.{isIn, joined, without}
 use Rattle.tags.specs.Tags.{freeTag, heldAt, placed, rangeOf, bytesAsked, touches, snooped, allStaled, noted}
 use Rattle.replies.specs.Fits.{onBoundary, firstPart as startsPart, secondPart, partOf, sizeOfAll, beginsIn, cameOf, fitsAt, allFit, sizeFits, judged}
@@ -178,7 +178,7 @@ pub record Happens : Type 0 where
   pub completesLarge : completions three (history card large (drain ∷ bothParts ∷ drain ∷ request ∷ warmLarge)) ≡ 1
 
 pub happens : Happens
-unfolding frameOf choose bodyIn shaped allowedBody withinBody loadOf formOf framed readForm reading payloadIn wordAt bytesOf writing regionOf roundedOf reachOf runOf movedTo lowestZero sizeOf translationOf firstAt runTo allTo gather translationAt found put unitDropped spanDropped isIn joined without freeTag heldAt placed rangeOf bytesAsked touches snooped allStaled noted onBoundary startsPart secondPart partOf sizeOfAll beginsIn cameOf fitsAt allFit sizeFits judged unitFilled covered unitStep applied sending resetting enabling disabling isBelowTop isAskable asking lookingUp accessing sendingVector fetched unfetched settled translated untranslated completed snoopRange invalidated taken received calling
+unfolding frameOf choose bodyIn shaped allowedBody withinBody loadOf formOf framed readForm reading payloadIn wordAt bytesOf writing regionOf roundedOf reachOf runOf movedTo lowestZero sizeOf translationOf firstAt runTo allTo gather translationAt found put unitDropped rangeDropped isIn joined without freeTag heldAt placed rangeOf bytesAsked touches snooped allStaled noted onBoundary startsPart secondPart partOf sizeOfAll beginsIn cameOf fitsAt allFit sizeFits judged unitFilled covered unitStep applied sending resetting enabling disabling isBelowTop isAskable asking lookingUp accessing sendingVector fetched unfetched settled translated untranslated completed snoopRange invalidated taken received calling
 happens =
     record {
       opens = refl;

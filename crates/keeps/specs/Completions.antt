@@ -81,14 +81,14 @@ module _ (me : Noted) (f : Function) (o : Ok me f) (t : Tag) (own : isTag t ≡ 
         → ((i : ITag) → isIn (noteOf after) i ≡ (isOpen (leaves {T = terms} d (pendingOf b)) && isIn (noteOf b) i))
         → ((j : ℕ) (e : Cached) → heldIn (left f t enabled cache after) j ≡ some e → (heldIn f j ≡ some e) ⊎ (fills (view f) (some (CPL (t .0) d)) e ≡ true))
         → Step 32 (view f) (view (left f t enabled cache after)) (record { took = some (CPL (t .0) d); sent = none })
-    left-step d opened lived noted slots =
+    left-step d opened lived noted entries =
         record {
           opens = λ u. byCases (eqb u (t .0))
               (λ e. ap pendingOf (at-own me f o t own after (tag u) e) ∙ opened ∙ sym (rw e (ap (λ (x : Open). leaves d (pendingOf x)) (was (tag u) e))))
               (λ e. ap pendingOf (at-other me f o t own after (tag u) e) ∙ sym (rw e refl));
           unused = λ u e. no-tf (sym e);
           live = λ u l. inl (byCases (eqb u (t .0)) (λ e. ap liveOf (was (tag u) e) ∙ lived (sym (ap liveOf (at-own me f o t own after (tag u) e)) ∙ l)) (λ e. sym (ap liveOf (at-other me f o t own after (tag u) e)) ∙ l));
-          slots = slots;
+          entries = entries;
           through = λ b k e. no-some e;
           waiting = λ i. refl;
           waitsFor = λ i u w. byCases (eqb u (t .0))

@@ -39,7 +39,7 @@ use Rattle.tlp.specs.Forbidden.{readingByPhrases, writingByPhrases}
 use Rattle.tlp.specs.Words.{areBytes}
 use Rattle.tlp.specs.Translations.{translationAt}
 use Rattle.atc.specs.declared.Entry.{Entry}
-use Rattle.atc.specs.Cache.{slotAt, touches}
+use Rattle.atc.specs.Cache.{entryAt, touches}
 use Rattle.tags.specs.Itags.{place, isIn}
 use Rattle.replies.specs.declared.Rcb.{Rcb}
 use Rattle.replies.specs.Fits.{exponentIn}
@@ -342,7 +342,7 @@ observer =
 
 -- what slot j of the cache holds
 abbrev pub heldIn : Function → ℕ → Option Cached
-heldIn f j = cond (slotAt (f .cache .slots) j .used) (some (record { stu = f .stu; entry = slotAt (f .cache .slots) j })) none
+heldIn f j = cond (entryAt (f .cache) j .used) (some (record { stu = f .stu; entry = entryAt (f .cache) j })) none
 
 -- the card: what its calls do is what `step` says, which their contracts cite
 abbrev pub card : Machine observer

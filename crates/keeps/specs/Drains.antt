@@ -98,7 +98,7 @@ module _ (me : Noted) (f : Function) (o : Ok me f) (bytes out : List ℕ) (ty : 
         own = o .own;
         id = o .id;
         agent = o .agent;
-        slots = o .slots;
+        cache = o .cache;
         reached = o .reached;
         tags = o .tags;
         begun = o .begun;
@@ -121,7 +121,7 @@ module _ (me : Noted) (f : Function) (o : Ok me f) (bytes out : List ℕ) (ty : 
         opens = λ t. refl;
         unused = λ t e. no-tf (sym e);
         live = λ t e. inl e;
-        slots = λ j e h. inl h;
+        entries = λ j e h. inl h;
         through = λ b k e. no-some e;
         waiting = λ i. refl;
         waitsFor = λ i t e. refl;
@@ -141,7 +141,7 @@ module _ (me : Noted) (f : Function) (o : Ok me f) (bytes out : List ℕ) (ty : 
         opens = λ t. refl;
         unused = λ t e. no-tf (sym e);
         live = λ t e. inl e;
-        slots = λ j e h. inl h;
+        entries = λ j e h. inl h;
         through = λ b k e. no-some e;
         waiting = λ i. rw (left-in (itag (i .number)), ready-in (itag (i .number))) (stays-by (f .agent) refl i);
         waitsFor = λ i t e. refl;

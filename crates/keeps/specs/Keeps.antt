@@ -13,7 +13,7 @@ use Rattle.span.specs.declared.Range.{Range}
 use Rattle.packet.specs.Numbers.{Said, gives, number}
 use Rattle.packet.specs.Reading.{reading}
 use Rattle.tlp.specs.Laws.{nothing-reads}
-use Rattle.atc.specs.Laws.{empty-long, empty-slot}
+use Rattle.atc.specs.Laws.{laws}
 use Rattle.tags.specs.declared.Open.{Open}
 use Rattle.tags.specs.declared.Open.the-variants.{Free, Ask}
 use Rattle.tags.specs.Itags.{isIn}
@@ -93,8 +93,8 @@ fresh-ok id stu rcb h =
       own = refl;
       id = h;
       agent = lit≤ tt;
-      slots = empty-long 0;
-      reached = λ j. rw (empty-slot 0 j) (lit≤ tt);
+      cache = laws .new-sound;
+      reached = λ j. rw (laws .new-entry j) (lit≤ tt);
       tags = refl;
       begun = λ t q e. let z : Free ≡ Ask q = sym (empty-held t) ∙ e in let z : _≡_ {A = ℕ} 0 1 = cc in absurd (omega arith);
       vector = lit≤ tt;

@@ -8,7 +8,7 @@ use Rattle.lemmas.specs.Cases.{byCases}
 use Rattle.packet.specs.declared.ITag.{ITag}
 use Rattle.packet.specs.declared.Tag.{Tag}
 use Rattle.atc.specs.declared.Cache.{Cache}
-use Rattle.atc.specs.Cache.{slotAt}
+use Rattle.atc.specs.Cache.{entryAt, SoundCache}
 use Rattle.tags.specs.declared.Open.{Open}
 use Rattle.tags.specs.declared.Open.the-variants.{Ask}
 use Rattle.tags.specs.declared.Tr.{Tr}
@@ -33,15 +33,15 @@ module _ (me : Noted) (f : Function) (o : Ok me f) (t : Tag) (own : isTag t ≡ 
   pub at-other : (u : Tag) → eqb (u .0) (t .0) ≡ false → heldAt (placed (f .places) t after) u ≡ heldAt (f .places) u
   at-other u e = at-tag u ∙ rw e refl
 
-  pub left-ok : (enabled : Bool) (cache : Cache) → length (cache .slots) ≡ 32 → ((j : ℕ) → slotAt (cache .slots) j .to < 18446744073709551616) → ((q : Tr) → after ≡ Ask q → (q .stu ≡ f .stu) × (q .due ≡ 0 → q .whole ≡ 0))
+  pub left-ok : (enabled : Bool) (cache : Cache) → SoundCache cache → ((j : ℕ) → entryAt cache j .to < 18446744073709551616) → ((q : Tr) → after ≡ Ask q → (q .stu ≡ f .stu) × (q .due ≡ 0 → q .whole ≡ 0))
       → ((i : ITag) → isIn (noteOf after) i ≡ true → isIn (f .waiting) i ≡ true) → Ok me (left f t enabled cache after)
-  left-ok enabled cache slots reached begins notes =
+  left-ok enabled cache sound reached begins notes =
       record {
         unit = o .unit;
         own = o .own;
         id = o .id;
         agent = o .agent;
-        slots = slots;
+        cache = sound;
         reached = reached;
         tags = placed-long (f .places) t after ∙ o .tags;
         begun = λ u q h. byCases (eqb (u .0) (t .0)) (λ e. begins q (sym (at-own u e) ∙ h)) (λ e. o .begun u q (sym (at-other u e) ∙ h));

@@ -26,8 +26,7 @@ use Rattle.tlp.specs.Frames.{Bytes}
 use Rattle.tlp.specs.Laws.{read-typed, completion-payload}
 use Rattle.atc.specs.declared.Entry.{Entry}
 use Rattle.atc.specs.declared.Cache.{Cache}
-use Rattle.atc.specs.Cache.{slotAt}
-use Rattle.atc.specs.Laws.{fill-long, unit-long}
+use Rattle.atc.specs.Cache.{entryAt}
 use Rattle.tags.specs.declared.Open.{Open}
 use Rattle.tags.specs.declared.Open.the-variants.{Free, Ask, Read}
 use Rattle.tags.specs.declared.Tr.{Tr}
@@ -37,12 +36,12 @@ use Rattle.tags.specs.Tags.{heldAt, isTag, rangeOf, noteOf}
 use Rattle.tags.specs.Laws.{in-none, held-tag, range-run}
 use Rattle.pages.specs.declared.Interface.{Interface}
 use Rattle.pages.specs.declared.Interface.the-variants.{Off as IsOff, On, Stopped}
-use Rattle.pages.specs.Pages.{isIndex, isWaiting}
+use Rattle.pages.specs.Pages.{isWaiting}
 use Rattle.replies.specs.declared.Part.{Part}
 use Rattle.replies.specs.declared.Part.the-variants.{Misfit, Off, First, Last}
 use Rattle.replies.specs.Fits.{judged, fits}
 use Rattle.replies.specs.Fills.{applied, afterFirst}
-use Rattle.replies.specs.Laws.{applied-slot, applied-keeps}
+use Rattle.replies.specs.Laws.{applied-sound, applied-entry}
 use Rattle.state.specs.declared.Function.{Function}
 use Rattle.state.specs.Answers.{Word, plainly}
 use Rattle.state.specs.Laws.{Does, does-number, does-case}
@@ -98,7 +97,7 @@ module _ (me : Noted) (f : Function) (o : Ok me f) (bytes out : List ℕ) (ty : 
           → Does (Good me f receive-call) (plainly (left f t enabled (f .cache) after) w)
       same-cache d given enabled after w opened lived begins notes =
           plain (Cpl c) is _ w
-          (left-ok me f o t own after enabled (f .cache) (o .slots) (o .reached) begins (λ i h. o .noted t i (ap (λ (x : Open). isIn (noteOf x) i) holds ∙ and-both (isOpen (leaves {T = terms} d (pendingOf b))) _ (sym (notes i) ∙ h) .1)))
+          (left-ok me f o t own after enabled (f .cache) (o .cache) (o .reached) begins (λ i h. o .noted t i (ap (λ (x : Open). isIn (noteOf x) i) holds ∙ and-both (isOpen (leaves {T = terms} d (pendingOf b))) _ (sym (notes i) ∙ h) .1)))
           (rw (mine, given) (left-step me f o t own b holds enabled (f .cache) after d opened lived notes (λ j x h. inl h)))
 
       -- the tag is freed
@@ -142,11 +141,8 @@ module _ (me : Noted) (f : Function) (o : Ok me f) (bytes out : List ℕ) (ty : 
       abbrev filled-cache : Cache
       filled-cache = applied q load (f .cache)
 
-      filled-long : length (filled-cache .slots) ≡ 32
-      filled-long = applied-keeps q load (λ d. length (d .slots) ≡ 32) (f .cache) (o .slots) (λ x d b k. fill-long x d k) (λ unit d b k. unit-long unit d k)
-
-      filled-reached : (j : ℕ) → slotAt (filled-cache .slots) j .to < 18446744073709551616
-      filled-reached j = ⊎-elim (λ s. rw s (o .reached j)) (⊎-elim (λ s. rw s (lit≤ tt)) (λ b. brought-to q load _ all-bytes b)) (applied-slot q load (f .cache) (o .slots) j)
+      filled-reached : (j : ℕ) → entryAt filled-cache j .to < 18446744073709551616
+      filled-reached j = ⊎-elim (λ s. rw s (o .reached j)) (⊎-elim (λ s. rw s (lit≤ tt)) (λ b. brought-to q load _ all-bytes b)) (applied-entry q load (f .cache) (o .cache) j)
 
       -- with the translations of a live request applied
       fills-cache : outcomeTaken (t .0) (c .count) load (c .outcome) ≡ some (CPL (t .0) (some reply)) → isLive f q ≡ true → fits q load ≡ true → (after : Open) (w : Word) → pendingOf after ≡ leaves (some reply) (pendingOf (Ask q))
@@ -154,18 +150,18 @@ module _ (me : Noted) (f : Function) (o : Ok me f) (bytes out : List ℕ) (ty : 
           → Does (Good me f receive-call) (plainly (left f t (f .enabled) filled-cache after) w)
       fills-cache given live fit after w opened lived begins notes =
           plain (Cpl c) is _ w
-          (left-ok me f o t (own (Ask q) holds asks-used) after (f .enabled) filled-cache filled-long filled-reached begins (λ i h. absurd (never-both _ h (notes i))))
-          (rw (mine, given) (left-step me f o t (own (Ask q) holds asks-used) (Ask q) holds (f .enabled) filled-cache after (some reply) opened lived (λ i. notes i ∙ sym (ap (λ (b : Bool). isOpen (leaves {T = terms} (some reply) (pendingOf (Ask q))) && b) (in-none i) ∙ and-false (isOpen (leaves {T = terms} (some reply) (pendingOf (Ask q)))))) slots))
+          (left-ok me f o t (own (Ask q) holds asks-used) after (f .enabled) filled-cache (applied-sound q load (f .cache) (o .cache)) filled-reached begins (λ i h. absurd (never-both _ h (notes i))))
+          (rw (mine, given) (left-step me f o t (own (Ask q) holds asks-used) (Ask q) holds (f .enabled) filled-cache after (some reply) opened lived (λ i. notes i ∙ sym (ap (λ (b : Bool). isOpen (leaves {T = terms} (some reply) (pendingOf (Ask q))) && b) (in-none i) ∙ and-false (isOpen (leaves {T = terms} (some reply) (pendingOf (Ask q)))))) entries))
         where
-          slots : (j : ℕ) (y : Cached) → cond {A = Option Cached} (slotAt (filled-cache .slots) j .used) (some (record { stu = f .stu; entry = slotAt (filled-cache .slots) j })) none ≡ some y
+          entries : (j : ℕ) (y : Cached) → cond {A = Option Cached} (entryAt filled-cache j .used) (some (record { stu = f .stu; entry = entryAt filled-cache j })) none ≡ some y
               → (heldIn f j ≡ some y) ⊎ (fills (view f) (some (CPL (t .0) (some reply))) y ≡ true)
-          slots j y h =
+          entries j y h =
               ⊎-elim
               (λ s. inl (sym (ap (λ (x : Entry). cond {A = Option Cached} (x .used) (some (record { stu = f .stu; entry = x })) none) s) ∙ h))
               (⊎-elim
-              (λ s. no-some (sym (no-entry (f .stu) (slotAt (filled-cache .slots) j) s) ∙ h))
-              (λ b. inr (rw (holds, and-both (f .enabled) _ live .1, ← held-entry (f .stu) (slotAt (filled-cache .slots) j) y h .1) (ap (λ (s : ℕ). isReplied (askedBy q) (q .whole - q .due) reply (record { stu = s; entry = slotAt (filled-cache .slots) j })) (sym (o .begun t q holds .0)) ∙ brought-replied q load fit (slotAt (filled-cache .slots) j) b (c .count)))))
-              (applied-slot q load (f .cache) (o .slots) j)
+              (λ s. no-some (sym (no-entry (f .stu) (entryAt filled-cache j) s) ∙ h))
+              (λ b. inr (rw (holds, and-both (f .enabled) _ live .1, ← held-entry (f .stu) (entryAt filled-cache j) y h .1) (ap (λ (s : ℕ). isReplied (askedBy q) (q .whole - q .due) reply (record { stu = s; entry = entryAt filled-cache j })) (sym (o .begun t q holds .0)) ∙ brought-replied q load fit (entryAt filled-cache j) b (c .count)))))
+              (applied-entry q load (f .cache) (o .cache) j)
 
       -- a first packet of two leaves the rest due; the last, and the only one, leave nothing
       for-part : outcomeTaken (t .0) (c .count) load (c .outcome) ≡ some (CPL (t .0) (some reply)) → (x : Part) → judged q (f .rcb) (c .count) (c .lower) load ≡ x → Does (Good me f receive-call) (translatedAs f t q (c .count) load x)
@@ -222,7 +218,7 @@ module _ (me : Noted) (f : Function) (o : Ok me f) (bytes out : List ℕ) (ty : 
   responds s is Stopped = does-number _ 7
   responds s is On =
       does-case _ (leb (s .code) 1) _ _
-      (λ a. does-case _ (isIndex (s .index) && isWaiting (f .pages .groups) (s .index)) _ _ (λ w. plain (Prs s) is _ _ (same-ok me f o (f .enabled) _) (quiet (view f))) (λ w. does-number _ 7))
+      (λ a. does-case _ (isWaiting (f .pages .groups) (s .index)) _ _ (λ w. plain (Prs s) is _ _ (same-ok me f o (f .enabled) _) (quiet (view f))) (λ w. does-number _ 7))
       (λ a. plain (Prs s) is _ _ (same-ok me f o (f .enabled) _) (quiet (view f)))
 
   takes : (b : Body) → p .body ≡ b → Does (Good me f receive-call) (taken f from load b)

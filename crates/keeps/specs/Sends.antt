@@ -23,12 +23,14 @@ use Rattle.packet.specs.Forms.{dwordsOf}
 use Rattle.tlp.specs.Fields.{typed-request, typed-access, typed-page}
 use Rattle.atc.specs.declared.Found.{Found}
 use Rattle.atc.specs.declared.Found.the-variants.{Hit, Miss}
-use Rattle.atc.specs.Cache.{slotAt, found, emptied}
-use Rattle.atc.specs.Laws.{empty-long, empty-slot, found-is}
+use Rattle.atc.specs.Cache.{entryAt, found, emptied}
+use Rattle.atc.specs.Laws.{laws}
 use Rattle.tags.specs.declared.Open.{Open}
 use Rattle.tags.specs.declared.Open.the-variants.{Free, Ask, Read}
 use Rattle.tags.specs.declared.Tr.{Tr}
 use Rattle.tags.specs.Itags.{isIn}
+use Rattle.tags.specs.declared.FreeTag.{FreeTag}
+use Rattle.tags.specs.declared.FreeTag.the-variants.{Lowest, NoneFree}
 use Rattle.tags.specs.Tags.{asked, fetching, freeTag, heldAt, isTag, noteOf, staled}
 use Rattle.tags.specs.Laws.{in-none, staled-long, staled-held, free-tag, range-run}
 use Rattle.pages.specs.declared.Pages.{Pages}
@@ -39,11 +41,11 @@ use Rattle.state.specs.declared.Function.{Function}
 use Rattle.state.specs.State.{withPages, withPlace, withEnable, headOf}
 use Rattle.state.specs.Switches.{enabling, disabling, isGranted, switchingOn, switchingOff}
 use Rattle.state.specs.Laws.{Does, does-number, does-case}
-use Rattle.asks.specs.Ask.{isAskable, requestOf, asking, few-units}
+use Rattle.asks.specs.Ask.{isAskable, requestOf, askOn, asking, few-units}
 use Rattle.accesses.specs.declared.Way.{Way}
 use Rattle.accesses.specs.declared.Way.the-variants.{Read as ToRead, Write as ToWrite}
 use Rattle.accesses.specs.declared.Target.{Target}
-use Rattle.accesses.specs.Access.{memoryOf, unitAt, isAllowed, enteredBy, targetOf, isInPage, going, goingIf, lookingUp, accessing}
+use Rattle.accesses.specs.Access.{memoryOf, unitAt, isAllowed, enteredBy, targetOf, isInPage, readOn, going, goingIf, lookingUp, accessing}
 use Rattle.requests.specs.PageRequests.{pageOf, isAsked, requested, requestingOn, requesting}
 use Rattle.asks.specs.declared.Asking.{Asking}
 use Rattle.accesses.specs.declared.Accessing.{Accessing}
@@ -69,7 +71,7 @@ module _ (me : Noted) (f : Function) (o : Ok me f) where
         own = o .own;
         id = o .id;
         agent = o .agent;
-        slots = o .slots;
+        cache = o .cache;
         reached = o .reached;
         tags = o .tags;
         begun = o .begun;
@@ -110,8 +112,8 @@ module _ (me : Noted) (f : Function) (o : Ok me f) (bytes out : List ℕ) (octet
         own = o .own;
         id = o .id;
         agent = o .agent;
-        slots = empty-long (f .cache .hand);
-        reached = λ j. rw (empty-slot (f .cache .hand) j) (lit≤ tt);
+        cache = laws .empty-sound (f .cache);
+        reached = λ j. rw (laws .empty-entry (f .cache) j) (lit≤ tt);
         tags = staled-long (f .places) ∙ o .tags;
         begun = λ t q h. old t q (heldAt (f .places) t) refl (sym (staled-held (f .places) t) ∙ h);
         vector = o .vector;
@@ -123,7 +125,7 @@ module _ (me : Noted) (f : Function) (o : Ok me f) (bytes out : List ℕ) (octet
         unused = λ t e. no-tf (sym e);
         live = λ t l. inl (stale-live (heldAt (f .places) (tag t)) (sym (ap liveOf (staled-held (f .places) (tag t))) ∙ l));
         through = λ b k e. no-some e;
-        slots = λ j x h. no-some (sym (no-entry (f .stu) (slotAt (emptied (f .cache .hand) .slots) j) (empty-slot (f .cache .hand) j)) ∙ h);
+        entries = λ j x h. no-some (sym (no-entry (f .stu) (entryAt (emptied (f .cache)) j) (laws .empty-entry (f .cache) j)) ∙ h);
         waiting = λ i. refl;
         waitsFor = λ i t e. ap (λ (n : ℕ). isIn n (itag (i .number))) (ap noteOf (staled-held (f .places) (tag t)) ∙ stale-note (heldAt (f .places) (tag t)));
         carried = λ i. refl;
@@ -147,7 +149,7 @@ module _ (me : Noted) (f : Function) (o : Ok me f) (bytes out : List ℕ) (octet
 
 module _ (me : Noted) (f : Function) (o : Ok me f) (t : Tag) (own : isTag t ≡ true) (b : Open) where
   opened-ok : ((q : Tr) → b ≡ Ask q → (q .stu ≡ f .stu) × (q .due ≡ 0 → q .whole ≡ 0)) → ((i : ITag) → isIn (noteOf b) i ≡ false) → Ok me (withPlace f t b)
-  opened-ok begins notes = left-ok me f o t own b (f .enabled) (f .cache) (o .slots) (o .reached) begins (λ i e. absurd (never-both _ e (notes i)))
+  opened-ok begins notes = left-ok me f o t own b (f .enabled) (f .cache) (o .cache) (o .reached) begins (λ i e. absurd (never-both _ e (notes i)))
 
   -- a request goes out on a tag that was free
   pub open-step : heldAt (f .places) t ≡ Free → (x : Sent terms) → ((u : ℕ) → uses u (some x) ≡ eqb u (t .0)) → ((u : ℕ) (p : Option (Pending terms)) → onSent u (some x) p ≡ cond (eqb u (t .0)) (pendingOf b) p)
@@ -158,7 +160,7 @@ module _ (me : Noted) (f : Function) (o : Ok me f) (t : Tag) (own : isTag t ≡ 
             (λ e. ap pendingOf (at-other me f o t own b (tag u) e) ∙ sym (opened u (pendingOf (heldAt (f .places) (tag u))) ∙ rw e refl));
         unused = λ u e. let same = eqb-true u (t .0) (sym (used u) ∙ e) in rw same (ltb-true (t .0) 32 own, ap pendingOf free);
         live = λ u l. byCases (eqb u (t .0)) (λ e. inr (used u ∙ e)) (λ e. inl (sym (ap liveOf (at-other me f o t own b (tag u) e)) ∙ l));
-        slots = λ j e h. inl h;
+        entries = λ j e h. inl h;
         through = served;
         waiting = λ i. rw (carries i) refl;
         waitsFor = λ i u w. byCases (eqb u (t .0))
@@ -188,20 +190,24 @@ module _ (me : Noted) (f : Function) (o : Ok me f) (a : Asking) (bytes out : Lis
   unfolding asking
   good-ask =
       does-case _ (f .enabled) _ _
-      (λ on. does-case _ (isAskable (f .rcb) (f .stu) a) _ _
-      (λ few. does-case _ (isTag (freeTag (f .places))) _ _
-      (λ own. let t = freeTag (f .places) in
-      let b = asked (a .address) (a .units - 1) (f .stu) in
-      let n = few-units (f .rcb) (f .stu) a few in
-      good-send me f ask-call _ _ (requestOf (f .id) t a) []
-      (typed-request (headOf (f .id)) (o .id) _ (omega (arith, ltb-true (t .0) 32 own)) (omega (arith, ltb-true (a .address) (2 ^ 64) ty))) (own-packet me (requestOf (f .id) t a) (o .own) refl refl)
-      (opened-ok me f o t own b (λ q e. (let unit : f .stu ≡ q .stu = cc in sym unit, λ d. let z : 0 ≡ q .whole = cc in sym z)) in-none) (λ i. refl)
-      (rw (asks-units (a .units) (n .0), run-low-bits (a .address) (a .units - 1) (me .stu), ← o .unit)
-      (open-step me f o t own b (free-tag (f .places) (o .tags) own) (TR (t .0) (record { stu = f .stu; range = runOf (a .address) (a .units - 1) (f .stu) })) (λ u. refl)
-      (λ u p. ap (λ (r : Range). cond {A = Option (Pending terms)} (eqb u (t .0)) (some (translation (record { stu = f .stu; range = r }) 0)) p) (sym (range-run new-request))) (λ i. refl) in-none (λ w k e. no-some e))))
-      (λ e. does-number _ 11))
+      (λ enabled. does-case _ (isAskable (f .rcb) (f .stu) a) _ _
+      (λ few. on few (freeTag (f .places)) refl)
       (λ e. does-number _ 12))
       (λ e. does-number _ 6)
+    where
+      on : isAskable (f .rcb) (f .stu) a ≡ true → (x : FreeTag) → freeTag (f .places) ≡ x → Does (Good me f ask-call) (askOn f x a out)
+      on few NoneFree e = does-number _ 11
+      on few (Lowest t) e =
+          let b = asked (a .address) (a .units - 1) (f .stu) in
+          let n = few-units (f .rcb) (f .stu) a few in
+          let free = free-tag (f .places) t (o .tags) e in
+          let own = free .0 in
+          good-send me f ask-call _ _ (requestOf (f .id) t a) []
+          (typed-request (headOf (f .id)) (o .id) _ (omega (arith, ltb-true (t .0) 32 own)) (omega (arith, ltb-true (a .address) (2 ^ 64) ty))) (own-packet me (requestOf (f .id) t a) (o .own) refl refl)
+          (opened-ok me f o t own b (λ q e. (let unit : f .stu ≡ q .stu = cc in sym unit, λ d. let z : 0 ≡ q .whole = cc in sym z)) in-none) (λ i. refl)
+          (rw (asks-units (a .units) (n .0), run-low-bits (a .address) (a .units - 1) (me .stu), ← o .unit)
+          (open-step me f o t own b (free .1) (TR (t .0) (record { stu = f .stu; range = runOf (a .address) (a .units - 1) (f .stu) })) (λ u. refl)
+          (λ u p. ap (λ (r : Range). cond {A = Option (Pending terms)} (eqb u (t .0)) (some (translation (record { stu = f .stu; range = r }) 0)) p) (sym (range-run new-request))) (λ i. refl) in-none (λ w k e. no-some e)))
 
 -- ---- access
 
@@ -223,16 +229,16 @@ module _ (me : Noted) (f : Function) (o : Ok me f) (a : Accessing) (bytes out : 
       let load = demanded (eqb (length bytes) _) 12 _ (page .1) in
       record {
         least = leb-true 1 (a .words) (and-both (leb 1 (a .words)) _ (page .0) .0);
-        inside = entered (found (f .cache .slots) (unitAt (f .stu) (a .address))) refl (load .1) .0;
-        by = entered (found (f .cache .slots) (unitAt (f .stu) (a .address))) refl (load .1) .1;
+        inside = entered (found (f .cache) (unitAt (f .stu) (a .address))) refl (load .1) .0;
+        by = entered (found (f .cache) (unitAt (f .stu) (a .address))) refl (load .1) .1;
       }
     where
-      entered : (x : Found) → found (f .cache .slots) (unitAt (f .stu) (a .address)) ≡ x → enteredBy (a .way) (f .stu) (a .address) x ≡ gives at
+      entered : (x : Found) → found (f .cache) (unitAt (f .stu) (a .address)) ≡ x → enteredBy (a .way) (f .stu) (a .address) x ≡ gives at
           → (at .address < 18446744073709551616) × (at .translated ≡ true → (bytes : ℕ) → Through (view f) (record { address = some (a .address); bytes = bytes }) (at .address))
       entered Miss h q = let z : _≡_ {A = ℕ} 0 1 = cc in absurd (omega arith)
       entered (Hit x) h q =
-          let s = found-is (f .cache .slots) (o .slots) (unitAt (f .stu) (a .address)) x h in
-          let there : slotAt (f .cache .slots) (s .2 .0) ≡ x = s .2 .2 in
+          let s = laws .found-is (f .cache) (o .cache) (unitAt (f .stu) (a .address)) x h in
+          let there : entryAt (f .cache) (s .2 .0) ≡ x = s .2 .1 in
           let to : x .to < 18446744073709551616 = rw there at (o .reached (s .2 .0)) in
           let g = demanded (isAllowed (a .way) x) 14 _ q .1 in
           let same : targetOf (f .stu) (a .address) x ≡ at = cc in
@@ -269,16 +275,20 @@ module _ (me : Noted) (f : Function) (o : Ok me f) (a : Accessing) (bytes out : 
       good-send me f access-call _ _ (memoryOf (f .id) Write (a .words) at) bytes (typed-access (headOf (f .id)) (o .id) _ tt (g .inside)) (own-packet me (memoryOf (f .id) Write (a .words) at) (o .own) refl refl) o (λ i. refl)
       (writes (view f) (at .translated) _ (at .address) (served ToWrite is at g _))
   goes-good ToRead is at g =
-      does-case _ (isTag (freeTag (f .places))) _ _
-      (λ own. let t = freeTag (f .places) in
-      let b = fetching (a .address) (4 * a .words) (at .translated) in
-      good-send me f access-call _ _ (memoryOf (f .id) (Fetches t) (a .words) at) bytes
-      (typed-access (headOf (f .id)) (o .id) _ (omega (arith, ltb-true (t .0) 32 own)) (g .inside)) (own-packet me (memoryOf (f .id) (Fetches t) (a .words) at) (o .own) refl refl)
-      (opened-ok me f o t own b (λ q e. let z : _≡_ {A = ℕ} 0 1 = cc in absurd (omega arith)) in-none) (λ i. refl)
-      (rw (is, ne-eqb (a .words) 0 (omega (arith, g .least)))
-      (open-step me f o t own b (free-tag (f .places) (o .tags) own) (READ (t .0) (at .translated) (record { address = some (a .address); bytes = 4 * a .words }) (at .address)) (λ u. refl) (λ u p. refl) (λ i. refl) in-none
-      (λ w k e. served ToRead is at g (4 * a .words) w k (rw is e)))))
-      (λ e. does-number _ 11)
+      on (freeTag (f .places)) refl
+    where
+      on : (x : FreeTag) → freeTag (f .places) ≡ x → Does (Good me f access-call) (readOn f x at a bytes out)
+      on NoneFree e = does-number _ 11
+      on (Lowest t) e =
+          let free = free-tag (f .places) t (o .tags) e in
+          let own = free .0 in
+          let b = fetching (a .address) (4 * a .words) (at .translated) in
+          good-send me f access-call _ _ (memoryOf (f .id) (Fetches t) (a .words) at) bytes
+          (typed-access (headOf (f .id)) (o .id) _ (omega (arith, ltb-true (t .0) 32 own)) (g .inside)) (own-packet me (memoryOf (f .id) (Fetches t) (a .words) at) (o .own) refl refl)
+          (opened-ok me f o t own b (λ q e. let z : _≡_ {A = ℕ} 0 1 = cc in absurd (omega arith)) in-none) (λ i. refl)
+          (rw (is, ne-eqb (a .words) 0 (omega (arith, g .least)))
+          (open-step me f o t own b (free .1) (READ (t .0) (at .translated) (record { address = some (a .address); bytes = 4 * a .words }) (at .address)) (λ u. refl) (λ u p. refl) (λ i. refl) in-none
+          (λ w k e. served ToRead is at g (4 * a .words) w k (rw is e))))
 
   pub good-access : Does (Good me f access-call) (accessing f a bytes out)
   unfolding accessing

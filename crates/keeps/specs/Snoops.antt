@@ -13,8 +13,8 @@ use Rattle.packet.specs.declared.ITag.{ITag}
 use Rattle.packet.specs.declared.Tag.{Tag}
 use Rattle.packet.specs.declared.InvalidateRequest.{InvalidateRequest}
 use Rattle.atc.specs.declared.Entry.{Entry}
-use Rattle.atc.specs.Cache.{slotAt, nothing, touches}
-use Rattle.atc.specs.Laws.{span-slot, span-clear, span-long}
+use Rattle.atc.specs.Cache.{entryAt, nothing, touches}
+use Rattle.atc.specs.Laws.{laws}
 use Rattle.tags.specs.declared.Open.{Open}
 use Rattle.tags.specs.declared.Open.the-variants.{Free, Ask, Read}
 use Rattle.tags.specs.declared.Tr.{Tr}
@@ -64,14 +64,17 @@ module _ (me : Noted) (f : Function) (o : Ok me f) (from : ℕ) (i : InvalidateR
   at-tag : (t : Tag) → heldAt (gone .places) t ≡ snoopOf range (i .itag) (heldAt (f .places) t)
   at-tag t = snooped-held range (i .itag) (f .places) t
 
-  slot-is : (j : ℕ) → slotAt (gone .cache .slots) j ≡ cond (touches (f .stu) range (slotAt (f .cache .slots) j)) nothing (slotAt (f .cache .slots) j)
-  slot-is j = span-slot (f .stu) range (f .cache .slots) j
+  slot-is : (j : ℕ) → entryAt (gone .cache) j ≡ cond (touches (f .stu) range (entryAt (f .cache) j)) nothing (entryAt (f .cache) j)
+  slot-is j = laws .range-entry (f .stu) range (f .cache) (o .cache) j
 
-  slot-cut : (j : ℕ) → touches (f .stu) range (slotAt (f .cache .slots) j) ≡ true → slotAt (gone .cache .slots) j ≡ nothing
+  slot-cut : (j : ℕ) → touches (f .stu) range (entryAt (f .cache) j) ≡ true → entryAt (gone .cache) j ≡ nothing
   slot-cut j u = slot-is j ∙ rw u refl
 
-  slot-left : (j : ℕ) → touches (f .stu) range (slotAt (f .cache .slots) j) ≡ false → slotAt (gone .cache .slots) j ≡ slotAt (f .cache .slots) j
+  slot-left : (j : ℕ) → touches (f .stu) range (entryAt (f .cache) j) ≡ false → entryAt (gone .cache) j ≡ entryAt (f .cache) j
   slot-left j u = slot-is j ∙ rw u refl
+
+  apart : (j : ℕ) → touches (f .stu) range (entryAt (gone .cache) j) ≡ false
+  apart j = rw (slot-is j) (byCases (touches (f .stu) range (entryAt (f .cache) j)) (λ u. rw u) (λ u. rw u u))
 
   -- a marked Translation Request has come as far as it had
   marked-begun : (t : Tag) (q : Tr) (x : Open) → heldAt (f .places) t ≡ x → snoopOf range (i .itag) x ≡ Ask q → (q .stu ≡ f .stu) × (q .due ≡ 0 → q .whole ≡ 0)
@@ -93,8 +96,8 @@ module _ (me : Noted) (f : Function) (o : Ok me f) (from : ℕ) (i : InvalidateR
         own = o .own;
         id = o .id;
         agent = short;
-        slots = span-long (f .stu) range (f .cache .slots) (o .slots);
-        reached = λ j. rw (slot-is j) (byCases (touches (f .stu) range (slotAt (f .cache .slots) j)) (λ u. rw u (lit≤ tt)) (λ u. rw u (o .reached j)));
+        cache = laws .range-sound (f .stu) range (f .cache) (o .cache);
+        reached = λ j. rw (slot-is j) (byCases (touches (f .stu) range (entryAt (f .cache) j)) (λ u. rw u (lit≤ tt)) (λ u. rw u (o .reached j)));
         tags = snooped-long (f .places) range (i .itag) ∙ o .tags;
         begun = λ t q h. marked-begun t q (heldAt (f .places) t) refl (sym (at-tag t) ∙ h);
         vector = joined-lt (f .waiting) (i .itag) (o .vector);
@@ -181,7 +184,7 @@ module _ (me : Noted) (f : Function) (o : Ok me f) (from : ℕ) (i : InvalidateR
         opens = λ t. ap pendingOf (at-tag (tag t)) ∙ snoop-pending range (i .itag) (heldAt (f .places) (tag t));
         unused = λ t e. no-tf (sym e);
         live = λ t l. inl (snoop-live range (i .itag) (heldAt (f .places) (tag t)) (sym (ap liveOf (at-tag (tag t))) ∙ l) .0);
-        slots = λ j e h. inl (kept j e h);
+        entries = λ j e h. inl (kept j e h);
         through = λ b k e. no-some e;
         waiting = gone-waiting;
         waitsFor = λ k t e. noted-then k t e;
@@ -189,7 +192,7 @@ module _ (me : Noted) (f : Function) (o : Ok me f) (from : ℕ) (i : InvalidateR
         first = λ k z p. ap some (sym (eqb-true (k .agent) from (and-both (eqb (k .agent) from) _ (accepted k z p .0) .0)));
         lasts = λ g e. known-from g e;
         notYet = λ k z p. rw (mine k (and-both (eqb (k .agent) from) _ (accepted k z p .0) .1)) (and-false (isAgent (f .agent) (k .agent)));
-        dropped = λ k z p j e h. rw (← accepted k z p .1, ← held-entry (f .stu) (slotAt (gone .cache .slots) j) e h .1) (span-clear (f .stu) range (f .cache .slots) j);
+        dropped = λ k z p j e h. rw (← accepted k z p .1, ← held-entry (f .stu) (entryAt (gone .cache) j) e h .1) (apart j);
         stale = λ k z p t l. rw (← accepted k z p .1, at-tag (tag t)) (snoop-apart range (i .itag) (heldAt (f .places) (tag t)) (sym (ap liveOf (at-tag (tag t))) ∙ l));
       }
     where
@@ -201,6 +204,6 @@ module _ (me : Noted) (f : Function) (o : Ok me f) (from : ℕ) (i : InvalidateR
           go (Known id) u e = ap some (sym (eqb-true id from (not-false (eqb id from) u))) ∙ e
 
       kept : (j : ℕ) (e : Cached) → heldIn gone j ≡ some e → heldIn f j ≡ some e
-      kept j e h = byCases (touches (f .stu) range (slotAt (f .cache .slots) j))
-          (λ u. no-some (sym (no-entry (f .stu) (slotAt (gone .cache .slots) j) (slot-cut j u)) ∙ h))
+      kept j e h = byCases (touches (f .stu) range (entryAt (f .cache) j))
+          (λ u. no-some (sym (no-entry (f .stu) (entryAt (gone .cache) j) (slot-cut j u)) ∙ h))
           (λ u. sym (ap (λ (x : Entry). cond {A = Option Cached} (x .used) (some (record { stu = f .stu; entry = x })) none) (slot-left j u)) ∙ h)

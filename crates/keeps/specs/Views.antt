@@ -18,7 +18,7 @@ use Rattle.packet.specs.Writing.{writing, bytesOf}
 use Rattle.tlp.specs.Fields.{Typed}
 use Rattle.tlp.specs.Laws.{sent-reads, nothing-reads}
 use Rattle.atc.specs.declared.Entry.{Entry}
-use Rattle.atc.specs.Cache.{slotAt, nothing}
+use Rattle.atc.specs.Cache.{entryAt, nothing, SoundCache}
 use Rattle.tags.specs.declared.Open.{Open}
 use Rattle.tags.specs.declared.Open.the-variants.{Free, Ask, Read}
 use Rattle.tags.specs.declared.Tr.{Tr}
@@ -91,8 +91,8 @@ pub record Ok (me : Noted) (f : Function) : Type 0 where
   pub own : f .id ≡ me .id
   pub id : f .id < 65536
   pub agent : agentId (f .agent) < 65536
-  pub slots : length (f .cache .slots) ≡ 32
-  pub reached : (j : ℕ) → slotAt (f .cache .slots) j .to < 18446744073709551616
+  pub cache : SoundCache (f .cache)
+  pub reached : (j : ℕ) → entryAt (f .cache) j .to < 18446744073709551616
   pub tags : length (f .places) ≡ 32
   -- an open Translation Request has the Function's unit, and a first packet of two has left something due
   pub begun : (t : Tag) (q : Tr) → heldAt (f .places) t ≡ Ask q → (q .stu ≡ f .stu) × (q .due ≡ 0 → q .whole ≡ 0)
@@ -140,7 +140,7 @@ quiet v =
       opens = λ t. refl;
       unused = λ t e. no-tf (sym e);
       live = λ t e. inl e;
-      slots = λ j e h. inl h;
+      entries = λ j e h. inl h;
       through = λ b k e. no-some e;
       waiting = λ i. refl;
       waitsFor = λ i t e. refl;
@@ -159,7 +159,7 @@ writes v x b k served =
       opens = λ t. refl;
       unused = λ t e. no-tf (sym e);
       live = λ t e. inl e;
-      slots = λ j e h. inl h;
+      entries = λ j e h. inl h;
       through = served;
       waiting = λ i. refl;
       waitsFor = λ i t e. refl;

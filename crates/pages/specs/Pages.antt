@@ -1,5 +1,5 @@
 -- The page request interface. 01, "The Function's tables", Page requests.
-use mathlib.Core.Bool.{Bool, false}
+use mathlib.Core.Bool.{Bool, false, cond, _&&_}
 use mathlib.Core.List.{List}
 use Prim.Native.Nat.{ℕ, _+_, _%_, _^_}
 use lib.Dec.{leb, ltb}
@@ -29,11 +29,12 @@ stopped = record { interface = Stopped; allocation = 0; groups = closedAll }
 abbrev pub isIndex : PrgIndex → Bool
 isIndex k = ltb (k .0) 32
 
+-- the group with an index; past the last there is none, and none waits
 abbrev pub groupAt : List Group → PrgIndex → Group
-groupAt groups k = getD groups (k .0 % 32) idle
+groupAt groups k = getD groups (k .0) idle
 
 unfoldable pub isWaiting : List Group → PrgIndex → Bool
-isWaiting groups k = groupAt groups k .waits
+isWaiting groups k = isIndex k && groupAt groups k .waits
 
 abbrev pub requestsOf : Group → ℕ
 requestsOf g = g .requests
@@ -50,8 +51,11 @@ abbrev pub more : Group → Bool → Group
 more g last = record { waits = last; requests = (g .requests + 1) % 2 ^ 16 }
 
 unfoldable pub joined : List Group → PrgIndex → Bool → List Group
-joined groups k last = set groups (k .0 % 32) (more (groupAt groups k) last)
+joined groups k last = cond (isIndex k) (set groups (k .0) (more (groupAt groups k) last)) groups
 
 -- a group is closed and its credits return
 unfoldable pub closed : List Group → PrgIndex → List Group
-closed groups k = set groups (k .0 % 32) idle
+closed groups k = cond (isIndex k) (set groups (k .0) idle) groups
+
+abbrev pub withGroups : Pages → List Group → Pages
+withGroups p groups = record { interface = p .interface; allocation = p .allocation; groups = groups }

@@ -2,7 +2,7 @@
 use packet::PrgIndex;
 ghost use mathlib.Core.Path.{_≡_};
 ghost use Prim.Native.Nat.{_≤_};
-ghost use Rattle.pages.specs.Pages.{idle, switchedOff, switchedOn, stopped, isIndex, isWaiting, requestsOf, used, isSpent, joined, closed};
+ghost use Rattle.pages.specs.Pages.{idle, switchedOff, switchedOn, stopped, isIndex, isWaiting, requestsOf, used, isSpent, joined, closed, withGroups};
 
 pub enum Interface {
     Off,
@@ -75,8 +75,8 @@ pub fn is_index(k: PrgIndex) -> bool
 pub fn is_waiting(groups: [Group; 32], k: PrgIndex) -> bool
     ensures { λ r. ⌜ r ≡ isWaiting groups k ⌝ }
 {
-    let i = (k.0 % 32) as usize;
-    groups[i].waits
+    let i = k.0 as usize;
+    if i < 32 { groups[i].waits } else { false }
 }
 
 fn requests_of(g: Group) -> u32
@@ -110,12 +110,14 @@ pub fn is_spent(groups: [Group; 32], allocation: u16) -> bool
 pub fn join(mut groups: [Group; 32], k: PrgIndex, last: bool) -> [Group; 32]
     ensures { λ r. ⌜ r ≡ joined groups k last ⌝ }
 {
-    let i = (k.0 % 32) as usize;
-    let requests = std::num::wrapping_add_u16(groups[i].requests, 1);
-    groups[i] = Group {
-        waits: last,
-        requests,
-    };
+    let i = k.0 as usize;
+    if i < 32 {
+        let requests = std::num::wrapping_add_u16(groups[i].requests, 1);
+        groups[i] = Group {
+            waits: last,
+            requests,
+        };
+    }
     groups
 }
 
@@ -123,7 +125,16 @@ pub fn join(mut groups: [Group; 32], k: PrgIndex, last: bool) -> [Group; 32]
 pub fn close(mut groups: [Group; 32], k: PrgIndex) -> [Group; 32]
     ensures { λ r. ⌜ r ≡ closed groups k ⌝ }
 {
-    let i = (k.0 % 32) as usize;
-    groups[i] = no_requests();
+    let i = k.0 as usize;
+    if i < 32 {
+        groups[i] = no_requests();
+    }
     groups
+}
+
+pub fn with_groups(mut p: Pages, groups: [Group; 32]) -> Pages
+    ensures { λ r. ⌜ r ≡ withGroups p groups ⌝ }
+{
+    p.groups = groups;
+    p
 }

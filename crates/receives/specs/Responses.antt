@@ -1,5 +1,5 @@
 -- PRG Response. 01, "The Function's tables", Page requests.
-use mathlib.Core.Bool.{cond, _&&_}
+use mathlib.Core.Bool.{cond}
 use Prim.Native.Nat.{ℕ}
 use lib.Dec.{leb}
 use Rattle.packet.specs.declared.PrgIndex.{PrgIndex}
@@ -7,20 +7,20 @@ use Rattle.packet.specs.Numbers.{Said, number, demand}
 use Rattle.pages.specs.declared.Interface.{Interface}
 use Rattle.pages.specs.declared.Interface.the-variants.{Off, On, Stopped}
 use Rattle.pages.specs.declared.Pages.{Pages}
-use Rattle.pages.specs.Pages.{isIndex, isWaiting, closed, stopped}
+use Rattle.pages.specs.Pages.{isWaiting, closed, stopped, withGroups}
 use Rattle.state.specs.declared.Function.{Function}
 use Rattle.state.specs.State.{withPages}
 use Rattle.state.specs.Answers.{Deed, done, plainly}
 
 -- a group is answered
 abbrev pub answeredIn : Pages → PrgIndex → Pages
-answeredIn p k = record { interface = On; allocation = p .allocation; groups = closed (p .groups) k }
+answeredIn p k = withGroups p (closed (p .groups) k)
 
 -- codes 0 and 1 close a group that waits; 2 to 15 are Response Failure, whatever the index
 unfoldable pub respondedOn : Function → ℕ → PrgIndex → Said Deed
 respondedOn f code k =
     cond (leb code 1)
-    (demand 7 (isIndex k && isWaiting (f .pages .groups) k) (plainly (withPages f (answeredIn (f .pages) k)) done))
+    (demand 7 (isWaiting (f .pages .groups) k) (plainly (withPages f (answeredIn (f .pages) k)) done))
     (plainly (withPages f stopped) done)
 
 -- 7 while the interface is not on

@@ -13,46 +13,29 @@ use state::Effect;
 use state::Function;
 ghost use mathlib.Core.Path.{_≡_};
 ghost use mathlib.Core.List.{[]};
-ghost use mathlib.Core.Bool.{_&&_};
 ghost use lib.Dec.{eqb};
 ghost use Rattle.packet.specs.Numbers.{demand};
-ghost use Rattle.pages.specs.Pages.{isIndex, isWaiting};
 ghost use Rattle.state.specs.Answers.{told, ended, paper};
 ghost use Rattle.completions.specs.Completions.{completed};
 ghost use Rattle.snoops.specs.Invalidate.{invalidated};
 ghost use Rattle.receives.specs.Responses.{answeredIn, respondedOn, responded};
 ghost use Rattle.receives.specs.Receive.{taken, received, isPayload, payloadFor};
 
-fn is_awaited(pages: Pages, k: PrgIndex) -> bool
-    ensures { λ r. ⌜ r ≡ (isIndex k && isWaiting (pages .groups) k) ⌝ }
-{
-    let groups = pages.groups;
-    if pages::is_index(k) {
-        pages::is_waiting(groups, k)
-    } else {
-        false
-    }
-}
-
 fn close_group(p: Pages, k: PrgIndex) -> Pages
     ensures { λ r. ⌜ r ≡ answeredIn p k ⌝ }
 {
     let groups = p.groups;
-    let interface = Interface::On;
     let left = pages::close(groups, k);
-    Pages {
-        interface,
-        allocation: p.allocation,
-        groups: left,
-    }
+    pages::with_groups(p, left)
 }
 
 fn answer_group(f: Function, code: u8, k: PrgIndex) -> Effect
     ensures { λ e. ⌜ told e [] ≡ ended f [] (respondedOn f code k) ⌝ }
 {
     let pages = f.pages;
+    let groups = pages.groups;
     if code <= 1 {
-        if is_awaited(pages, k) {
+        if pages::is_waiting(groups, k) {
             let left = close_group(pages, k);
             state::answered(state::with_pages(f, left), Answer::Done)
         } else {

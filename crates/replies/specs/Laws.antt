@@ -17,8 +17,8 @@ use Rattle.atc.specs.declared.Entry.{Entry}
 use Rattle.atc.specs.declared.Cache.{Cache}
 use Rattle.atc.specs.declared.Found.{Found}
 use Rattle.atc.specs.declared.Found.the-variants.{Miss}
-use Rattle.atc.specs.Cache.{found, nothing, slotAt, filled, unitDropped}
-use Rattle.atc.specs.Laws.{Single, fill-slot, fill-long, fill-single, fill-others, unit-slot, unit-long, unit-single, unit-other}
+use Rattle.atc.specs.Cache.{found, nothing, entryAt, filled, unitDropped, SoundCache}
+use Rattle.atc.specs.Laws.{laws}
 use Rattle.tags.specs.declared.Tr.{Tr}
 use Rattle.tags.specs.Tags.{rangeOf}
 use Rattle.replies.specs.Fits.{sizeOfAll, exponentIn, cameOf}
@@ -77,29 +77,25 @@ module _ (q : Tr) (load : List ℕ) where
           (λ shut. drops a d (at-least, ltb-false (rangeOf q .last) a below) k))
           (λ later. k)))
 
-  -- the slots stay 32, and no unit gets a second entry
-  pub applied-single : (c : Cache) → length (c .slots) ≡ 32 → Single (c .slots) → (length (applied q load c .slots) ≡ 32) × Single (applied q load c .slots)
-  applied-single c all s =
-      applied-keeps (λ d. (length (d .slots) ≡ 32) × Single (d .slots)) c (all, s)
-      (λ x d b k. (fill-long x d (k .0), fill-single x d (k .0) (k .1)))
-      (λ unit d b k. (unit-long unit d (k .0), unit-single unit d (k .0) (k .1)))
+  pub applied-sound : (c : Cache) → SoundCache c → SoundCache (applied q load c)
+  applied-sound c s = applied-keeps SoundCache c s (λ x d b k. laws .fill-sound x d k) (λ unit d b k. laws .drop-sound unit d k)
 
   -- each slot holds what it held, or nothing, or what the completion brought
-  pub applied-slot : (c : Cache) → length (c .slots) ≡ 32 → (i : ℕ) → (slotAt (applied q load c .slots) i ≡ slotAt (c .slots) i) ⊎ ((slotAt (applied q load c .slots) i ≡ nothing) ⊎ Brought q load (slotAt (applied q load c .slots) i))
-  applied-slot c all i =
-      applied-keeps (λ d. (length (d .slots) ≡ 32) × From (slotAt (d .slots) i)) c (all, inl refl)
-      (λ x d b k. (fill-long x d (k .0), ⊎-elim (λ s. rw s (k .1)) (λ s. inr (inr (rw (s .1) b))) (fill-slot x d i)))
-      (λ unit d b k. (unit-long unit d (k .0), ⊎-elim (λ s. rw s (k .1)) (λ s. inr (inl s)) (unit-slot unit d (k .0) i))) .1
+  pub applied-entry : (c : Cache) → SoundCache c → (i : ℕ) → (entryAt (applied q load c) i ≡ entryAt c i) ⊎ ((entryAt (applied q load c) i ≡ nothing) ⊎ Brought q load (entryAt (applied q load c) i))
+  applied-entry c s i =
+      applied-keeps (λ d. SoundCache d × From (entryAt d i)) c (s, inl refl)
+      (λ x d b k. (laws .fill-sound x d (k .0), ⊎-elim (λ same. rw same (k .1)) (λ new. inr (inr (rw new b))) (laws .fill-entry x d (k .0) i)))
+      (λ unit d b k. (laws .drop-sound unit d (k .0), ⊎-elim (λ same. rw same (k .1)) (λ none. inr (inl none)) (laws .drop-entry unit d (k .0) i))) .1
     where
       From : Entry → Type 0
-      From x = (x ≡ slotAt (c .slots) i) ⊎ ((x ≡ nothing) ⊎ Brought q load x)
+      From x = (x ≡ entryAt c i) ⊎ ((x ≡ nothing) ⊎ Brought q load x)
 
   -- a unit outside the range gets no entry: it keeps its own, or loses it
-  pub applied-outside : (c : Cache) → length (c .slots) ≡ 32 → Single (c .slots) → (unit : ℕ) → (Inside (rangeOf q) unit → ⊥) → (found (applied q load c .slots) unit ≡ found (c .slots) unit) ⊎ (found (applied q load c .slots) unit ≡ Miss)
-  applied-outside c all s unit outside =
-      applied-keeps (λ d. (length (d .slots) ≡ 32) × (Single (d .slots) × Seen (found (d .slots) unit))) c (all, (s, inl refl))
-      (λ x d b k. (fill-long x d (k .0), (fill-single x d (k .0) (k .1 .0), ⊎-elim (λ a. rw a (k .1 .1)) inr (fill-others x d (k .0) (k .1 .0) unit (λ e. outside (rw e at (b .inside)))))))
-      (λ other d b k. (unit-long other d (k .0), (unit-single other d (k .0) (k .1 .0), rw (unit-other other d (k .0) unit (λ e. outside (rw e at b))) (k .1 .1)))) .1 .1
+  pub applied-outside : (c : Cache) → SoundCache c → (unit : ℕ) → (Inside (rangeOf q) unit → ⊥) → (found (applied q load c) unit ≡ found c unit) ⊎ (found (applied q load c) unit ≡ Miss)
+  applied-outside c s unit outside =
+      applied-keeps (λ d. SoundCache d × Seen (found d unit)) c (s, inl refl)
+      (λ x d b k. (laws .fill-sound x d (k .0), ⊎-elim (λ a. rw a (k .1)) inr (laws .fill-other x d (k .0) unit (λ e. outside (rw e at (b .inside))))))
+      (λ other d b k. (laws .drop-sound other d (k .0), rw (laws .drop-other other d (k .0) unit (λ e. outside (rw e at b))) (k .1))) .1
     where
       Seen : Found → Type 0
-      Seen r = (r ≡ found (c .slots) unit) ⊎ (r ≡ Miss)
+      Seen r = (r ≡ found c unit) ⊎ (r ≡ Miss)

@@ -323,19 +323,14 @@ pub fn apply(c: Cache, t: Tr, payload: &[u8]) -> Cache
 }
 
 // The request after a first packet of two.
-pub fn after_first(t: Tr, count: u16, payload: &[u8]) -> Tr
+pub fn after_first(mut t: Tr, count: u16, payload: &[u8]) -> Tr
     ensures { λ r. ⌜ r ≡ afterFirst t count (now (payload .entry)) ⌝ }
 {
     let size = size_of_all(t, payload);
-    Tr {
-        address: t.address,
-        further: t.further,
-        stu: t.stu,
-        stale: t.stale,
-        size: exponent(size),
-        whole: count,
-        due: rest(count, payload.len()),
-    }
+    t.size = exponent(size);
+    t.whole = count;
+    t.due = rest(count, payload.len());
+    t
 }
 
 fn rest(count: u16, bytes: usize) -> u16

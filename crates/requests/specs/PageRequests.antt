@@ -10,7 +10,7 @@ use Rattle.packet.specs.Numbers.{Said, number, refuse, demand}
 use Rattle.pages.specs.declared.Interface.{Interface}
 use Rattle.pages.specs.declared.Interface.the-variants.{Off, On, Stopped}
 use Rattle.pages.specs.declared.Pages.{Pages}
-use Rattle.pages.specs.Pages.{isIndex, isWaiting, isSpent, joined}
+use Rattle.pages.specs.Pages.{isIndex, isWaiting, isSpent, joined, withGroups}
 use Rattle.state.specs.declared.Function.{Function}
 use Rattle.state.specs.State.{withPages, headOf}
 use Rattle.state.specs.Answers.{Deed, done, sending}
@@ -24,7 +24,7 @@ isAsked q = (q .read || q .write) && (eqb (q .page % 4096) 0 && isIndex (q .inde
 
 -- one request more, which uses a credit
 abbrev pub requested : Pages → PageRequest → Pages
-requested p q = record { interface = On; allocation = p .allocation; groups = joined (p .groups) (q .index) (q .last) }
+requested p q = withGroups p (joined (p .groups) (q .index) (q .last))
 
 -- while the interface is on: 12, 16 for a group that waits or where no credit is left, 17
 unfoldable pub requestingOn : Function → PageRequest → List ℕ → Said Deed

@@ -50,13 +50,8 @@ fn with_request(p: Pages, q: PageRequest) -> Pages
     ensures { λ r. ⌜ r ≡ requested p q ⌝ }
 {
     let groups = p.groups;
-    let interface = Interface::On;
     let next = pages::join(groups, q.index, q.last);
-    Pages {
-        interface,
-        allocation: p.allocation,
-        groups: next,
-    }
+    pages::with_groups(p, next)
 }
 
 fn send_page(f: Function, q: PageRequest, out: &mut [u8]) -> Effect

@@ -1,4 +1,5 @@
 // The state's bytes in hex, and their digest.
+use atc::Cache;
 use atc::Entry;
 use pages::Group;
 use pages::Interface;
@@ -18,7 +19,7 @@ fn flag(x: bool, value: u8) -> u8 {
     if x { value } else { 0 }
 }
 
-fn put_slot(e: Entry, out: &mut [u8], at: usize) -> usize {
+fn put_entry(e: Entry, out: &mut [u8], at: usize) -> usize {
     if e.used {
         let a = put::hex(out, at, 1);
         let b = put::hex64(out, a, e.unit);
@@ -33,12 +34,12 @@ fn put_slot(e: Entry, out: &mut [u8], at: usize) -> usize {
     }
 }
 
-fn put_slots(slots: [Entry; 32], out: &mut [u8], at: usize) -> usize {
+fn put_entries(cache: Cache, out: &mut [u8], at: usize) -> usize {
     let mut next = at;
     let mut i: usize = 0;
     while i < 32 {
-        let e = slots[i];
-        next = put_slot(e, out, next);
+        let e = atc::entry_at(cache, i);
+        next = put_entry(e, out, next);
         i += 1;
     }
     next
@@ -164,12 +165,11 @@ fn put_settings(f: Function, out: &mut [u8], at: usize) -> usize {
 // At most 2538 characters.
 pub fn put_state(f: Function, out: &mut [u8], at: usize) -> usize {
     let cache = f.cache;
-    let slots = cache.slots;
     let places = f.places;
     let pages = f.pages;
     let a = put_settings(f, out, at);
-    let b = put::hex32(out, a, cache.hand);
-    let c = put_slots(slots, out, b);
+    let b = put::hex32(out, a, atc::evictions(cache));
+    let c = put_entries(cache, out, b);
     let d = put_places(places, out, c);
     let e = put::hex32(out, d, f.waiting);
     put_pages(pages, out, e)

@@ -9,14 +9,13 @@ use Rattle.span.specs.Size.{sizeOf}
 use Rattle.span.specs.Range.{unitExponent, roundedOf}
 use Rattle.packet.specs.declared.InvalidateRequest.{InvalidateRequest}
 use Rattle.packet.specs.Numbers.{Said, refuse}
-use Rattle.atc.specs.declared.Cache.{Cache}
-use Rattle.atc.specs.Cache.{spanDropped}
+use Rattle.atc.specs.Cache.{rangeDropped}
 use Rattle.tags.specs.Itags.{isIn, joined}
 use Rattle.tags.specs.Tags.{snooped}
 use Rattle.state.specs.declared.Agent.{Agent}
 use Rattle.state.specs.declared.Agent.the-variants.{Unknown, Known}
 use Rattle.state.specs.declared.Function.{Function}
-use Rattle.state.specs.State.{remade}
+use Rattle.state.specs.State.{withAgent, withWaiting, withCache, withPlaces}
 use Rattle.state.specs.Answers.{Deed, done, plainly}
 
 -- every body that was read has a size; where there were none, all that is cached would be old
@@ -33,16 +32,12 @@ abbrev pub isOther : Agent → ℕ → Bool
 isOther Unknown from = false
 isOther (Known id) from = not (eqb id from)
 
-abbrev pub cut : Cache → ℕ → Range → Cache
-cut c stu range = record { hand = c .hand; slots = spanDropped stu range (c .slots) }
-
 -- overlapping entries are deleted, overlapping requests marked stale, overlapping translated reads noted; the ITag waits, and the sender is the agent
 abbrev pub snoopedBy : Function → ℕ → InvalidateRequest → Function
 snoopedBy f from i =
-    remade f (f .enabled) (Known from) (joined (f .waiting) (i .itag))
-    (cut (f .cache) (f .stu) (snoopRange (f .stu) i))
-    (snooped (snoopRange (f .stu) i) (i .itag) (f .places))
-    (f .pages)
+    let range = snoopRange (f .stu) i in
+    let tables = withCache (withPlaces f (snooped range (i .itag) (f .places))) (rangeDropped (f .stu) range (f .cache)) in
+    withAgent (withWaiting tables (joined (f .waiting) (i .itag))) (Known from)
 
 -- 10, 9
 unfoldable pub invalidated : Function → ℕ → InvalidateRequest → Said Deed

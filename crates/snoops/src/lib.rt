@@ -1,5 +1,4 @@
 // Invalidate Requests: old entries go, old requests are marked, old reads are noted.
-use atc::Cache;
 use packet::InvalidateRequest;
 use packet::Refusal;
 use span::Range;
@@ -11,7 +10,7 @@ use state::Function;
 ghost use mathlib.Core.Path.{_≡_};
 ghost use mathlib.Core.List.{[]};
 ghost use Rattle.state.specs.Answers.{told, ended};
-ghost use Rattle.snoops.specs.Invalidate.{exponentOf, snoopRange, isOther, cut, snoopedBy, invalidated};
+ghost use Rattle.snoops.specs.Invalidate.{exponentOf, snoopRange, isOther, snoopedBy, invalidated};
 
 fn exponent_of(size: Size) -> u32
     ensures { λ r. ⌜ r ≡ exponentOf size ⌝ }
@@ -39,15 +38,6 @@ fn is_other(agent: Agent, from: u16) -> bool
     }
 }
 
-fn cut_cache(mut c: Cache, stu: u8, range: Range) -> Cache
-    ensures { λ r. ⌜ r ≡ cut c stu range ⌝ }
-{
-    let slots = c.slots;
-    let left = atc::drop_span(slots, stu, range);
-    c.slots = left;
-    c
-}
-
 // Old entries go, old requests are marked, old reads are noted, before anything else can happen.
 fn snoop(f: Function, from: u16, i: InvalidateRequest) -> Function
     ensures { λ r. ⌜ r ≡ snoopedBy f from i ⌝ }
@@ -55,22 +45,12 @@ fn snoop(f: Function, from: u16, i: InvalidateRequest) -> Function
     let range = snoop_range(f.stu, i);
     let cache = f.cache;
     let places = f.places;
-    let left = cut_cache(cache, f.stu, range);
+    let left = atc::drop_range(cache, f.stu, range);
     let noted = tags::snoop(places, range, i.itag);
+    let waiting = tags::itags::with(f.waiting, i.itag);
     let agent = Agent::Known(from);
-    let rcb = f.rcb;
-    let pages = f.pages;
-    Function {
-        id: f.id,
-        stu: f.stu,
-        rcb,
-        enabled: f.enabled,
-        agent,
-        waiting: tags::itags::with(f.waiting, i.itag),
-        cache: left,
-        places: noted,
-        pages,
-    }
+    let next = state::with_cache(state::with_places(f, noted), left);
+    state::with_agent(state::with_waiting(next, waiting), agent)
 }
 
 pub fn invalidate(f: Function, from: u16, i: InvalidateRequest) -> Effect

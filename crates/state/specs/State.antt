@@ -6,7 +6,7 @@ use lib.Dec.{eqb}
 use Rattle.packet.specs.declared.Head.{Head}
 use Rattle.packet.specs.declared.Tag.{Tag}
 use Rattle.atc.specs.declared.Cache.{Cache}
-use Rattle.atc.specs.Cache.{emptied}
+use Rattle.atc.specs.Cache.{blank}
 use Rattle.tags.specs.declared.Open.{Open}
 use Rattle.tags.specs.declared.Place.{Place}
 use Rattle.tags.specs.Tags.{emptyPlaces, placed}
@@ -39,12 +39,12 @@ fresh id stu rcb =
       enabled = false;
       agent = Unknown;
       waiting = 0;
-      cache = emptied 0;
+      cache = blank;
       places = emptyPlaces;
       pages = switchedOff;
     }
 
--- the Function with some of its parts changed
+-- the Function with its parts changed; below, with one of them
 abbrev pub remade : Function → Bool → Agent → ℕ → Cache → List Place → Pages → Function
 remade f enabled agent waiting cache places pages =
     record {
@@ -62,14 +62,20 @@ remade f enabled agent waiting cache places pages =
 abbrev pub withEnable : Function → Bool → Function
 withEnable f enabled = remade f enabled (f .agent) (f .waiting) (f .cache) (f .places) (f .pages)
 
+abbrev pub withAgent : Function → Agent → Function
+withAgent f agent = remade f (f .enabled) agent (f .waiting) (f .cache) (f .places) (f .pages)
+
 abbrev pub withWaiting : Function → ℕ → Function
 withWaiting f waiting = remade f (f .enabled) (f .agent) waiting (f .cache) (f .places) (f .pages)
 
-abbrev pub withTables : Function → Cache → List Place → Function
-withTables f cache places = remade f (f .enabled) (f .agent) (f .waiting) cache places (f .pages)
+abbrev pub withCache : Function → Cache → Function
+withCache f cache = remade f (f .enabled) (f .agent) (f .waiting) cache (f .places) (f .pages)
+
+abbrev pub withPlaces : Function → List Place → Function
+withPlaces f places = remade f (f .enabled) (f .agent) (f .waiting) (f .cache) places (f .pages)
 
 abbrev pub withPages : Function → Pages → Function
 withPages f pages = remade f (f .enabled) (f .agent) (f .waiting) (f .cache) (f .places) pages
 
 abbrev pub withPlace : Function → Tag → Open → Function
-withPlace f t o = withTables f (f .cache) (placed (f .places) t o)
+withPlace f t o = withPlaces f (placed (f .places) t o)

@@ -10,7 +10,7 @@ use Rattle.pages.specs.declared.Interface.the-variants.{Off, On, Stopped}
 use Rattle.pages.specs.Pages.{switchedOff, switchedOn}
 use Rattle.state.specs.declared.Function.{Function}
 use Rattle.state.specs.declared.Resetting.{Resetting}
-use Rattle.state.specs.State.{isRcb, rcbOf, fresh, remade, withEnable, withPages}
+use Rattle.state.specs.State.{isRcb, rcbOf, fresh, withEnable, withCache, withPlaces, withPages}
 use Rattle.state.specs.Answers.{Deed, done, plainly}
 
 -- a reset sets ID, STU and RCB; an STU over 31 and an RCB that is none are 12
@@ -24,7 +24,7 @@ resetting a =
 unfoldable pub enabling : Function → Said Deed
 enabling f =
     cond (f .enabled) (plainly f done)
-    (plainly (remade f true (f .agent) (f .waiting) (emptied (f .cache .hand)) (allStaled (f .places)) (f .pages)) done)
+    (plainly (withEnable (withCache (withPlaces f (allStaled (f .places))) (emptied (f .cache))) true) done)
 
 -- else only E changes
 unfoldable pub disabling : Function → Said Deed

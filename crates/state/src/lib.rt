@@ -10,7 +10,7 @@ use tags::Open;
 use tags::Place;
 ghost use mathlib.Core.Path.{_≡_};
 ghost use mathlib.Core.List.{[]};
-ghost use Rattle.state.specs.State.{headOf, fresh, withPlace, withPages, isRcb, rcbOf};
+ghost use Rattle.state.specs.State.{headOf, fresh, withEnable, withAgent, withWaiting, withCache, withPlaces, withPages, withPlace, isRcb, rcbOf};
 ghost use Rattle.state.specs.Answers.{refusedWith, plain, told, ended};
 ghost use Rattle.state.specs.Switches.{resetting, enabling, disabling, switchingOn, switchingOff, isGranted};
 
@@ -56,6 +56,70 @@ pub struct Effect {
     pub sent: usize,
 }
 
+pub fn with_enable(mut f: Function, enabled: bool) -> Function
+    ensures { λ r. ⌜ r ≡ withEnable f enabled ⌝ }
+{
+    f.enabled = enabled;
+    f
+}
+
+pub fn with_agent(f: Function, agent: Agent) -> Function
+    ensures { λ r. ⌜ r ≡ withAgent f agent ⌝ }
+{
+    let rcb = f.rcb;
+    let cache = f.cache;
+    let places = f.places;
+    let pages = f.pages;
+    Function {
+        id: f.id,
+        stu: f.stu,
+        rcb,
+        enabled: f.enabled,
+        agent,
+        waiting: f.waiting,
+        cache,
+        places,
+        pages,
+    }
+}
+
+pub fn with_waiting(mut f: Function, waiting: u32) -> Function
+    ensures { λ r. ⌜ r ≡ withWaiting f waiting ⌝ }
+{
+    f.waiting = waiting;
+    f
+}
+
+pub fn with_cache(mut f: Function, cache: Cache) -> Function
+    ensures { λ r. ⌜ r ≡ withCache f cache ⌝ }
+{
+    f.cache = cache;
+    f
+}
+
+pub fn with_places(mut f: Function, places: [Place; 32]) -> Function
+    ensures { λ r. ⌜ r ≡ withPlaces f places ⌝ }
+{
+    f.places = places;
+    f
+}
+
+pub fn with_pages(mut f: Function, pages: Pages) -> Function
+    ensures { λ r. ⌜ r ≡ withPages f pages ⌝ }
+{
+    f.pages = pages;
+    f
+}
+
+// One tag is open for something else, or free.
+pub fn with_place(f: Function, t: Tag, o: Open) -> Function
+    ensures { λ r. ⌜ r ≡ withPlace f t o ⌝ }
+{
+    let places = f.places;
+    let next = tags::hold(places, t, o);
+    with_places(f, next)
+}
+
 pub fn refused(f: Function, r: Refusal) -> Effect
     ensures { λ o. ⌜ o ≡ refusedWith f r ⌝ }
 {
@@ -77,7 +141,7 @@ fn fresh_function(id: u16, stu: u8, rcb: Rcb) -> Function
     ensures { λ r. ⌜ r ≡ fresh id stu rcb ⌝ }
 {
     let agent = Agent::Unknown;
-    let cache = atc::empty(0);
+    let cache = atc::new();
     let places = tags::all_free();
     let pages = pages::off();
     Function {
@@ -135,27 +199,26 @@ pub fn reset(f: Function, a: Resetting) -> Effect
 }
 
 // E goes from clear to set: the cache is emptied and open Translation Requests are out of date.
-pub fn enable(mut f: Function) -> Effect
+pub fn enable(f: Function) -> Effect
     ensures { λ r. ⌜ told r [] ≡ ended f [] (enabling f) ⌝ }
 {
     if f.enabled {
         return answered(f, Answer::Done);
     }
     let places = f.places;
-    let hand = f.cache.hand;
-    let emptied = atc::empty(hand);
+    let cache = f.cache;
+    let emptied = atc::empty(cache);
     let staled = tags::stale_all(places);
-    f.enabled = true;
-    f.cache = emptied;
-    f.places = staled;
-    answered(f, Answer::Done)
+    answered(
+        with_enable(with_cache(with_places(f, staled), emptied), true),
+        Answer::Done,
+    )
 }
 
-pub fn disable(mut f: Function) -> Effect
+pub fn disable(f: Function) -> Effect
     ensures { λ r. ⌜ told r [] ≡ ended f [] (disabling f) ⌝ }
 {
-    f.enabled = false;
-    answered(f, Answer::Done)
+    answered(with_enable(f, false), Answer::Done)
 }
 
 // An allocation is 1 to 512.
@@ -167,13 +230,6 @@ fn is_granted(allocation: u16) -> bool
     } else {
         false
     }
-}
-
-pub fn with_pages(mut f: Function, pages: Pages) -> Function
-    ensures { λ r. ⌜ r ≡ withPages f pages ⌝ }
-{
-    f.pages = pages;
-    f
 }
 
 fn switch_on(f: Function, allocation: u16) -> Effect
@@ -212,16 +268,6 @@ pub fn pages_off(f: Function) -> Effect
         }
         Interface::Stopped => answered(f, Answer::Done),
     }
-}
-
-// What a tag is open for.
-pub fn with_place(mut f: Function, t: Tag, o: Open) -> Function
-    ensures { λ r. ⌜ r ≡ withPlace f t o ⌝ }
-{
-    let places = f.places;
-    let next = tags::hold(places, t, o);
-    f.places = next;
-    f
 }
 
 // Every packet goes out on Traffic Class 0.

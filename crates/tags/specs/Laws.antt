@@ -25,6 +25,7 @@ use Rattle.tags.specs.declared.Open.the-variants.{Free, Ask, Read}
 use Rattle.tags.specs.declared.Tr.{Tr}
 use Rattle.tags.specs.declared.Fetch.{Fetch}
 use Rattle.tags.specs.declared.Place.{Place}
+use Rattle.tags.specs.declared.FreeTag.the-variants.{Lowest, NoneFree}
 use Rattle.tags.specs.Itags.{place, isIn, joined, without}
 use Rattle.tags.specs.Tags.{holding, emptyPlaces, isFree, freeAt, freeTag, isTag, heldAt, placed, rangeOf, bytesAsked, touches, marked, snoopedAt, snooped, staled, staledAt, allStaled, noteAt, noted}
 
@@ -226,11 +227,19 @@ held-placed places t o u all own =
     (λ e. let same : u ≡ t = ap (λ (k : ℕ). record { 0 = k }) (eqb-true (u .0) (t .0) e) in rw (e, same) (placed-own places t o all own))
     (λ e. rw e (placed-other places t o u (eqb-false (u .0) (t .0) e)))
 
--- the lowest free tag is free
-pub free-tag : (places : List Place) → length places ≡ 32 → isTag (freeTag places) ≡ true → heldAt places (freeTag places) ≡ Free
+-- the lowest free tag is a tag, and free
+pub free-tag : (places : List Place) (t : Tag) → length places ≡ 32 → freeTag places ≡ Lowest t → (isTag t ≡ true) × (heldAt places t ≡ Free)
 unfolding heldAt freeTag
-free-tag places all own = rw own (is-free _ (first-holds freeAt places (holding Free) (omega (arith, all, ltb-true (firstAt freeAt places) 32 own))))
+free-tag places t all e =
+    byCases (ltb first 32)
+    (λ own. let h : Lowest (record { 0 = first }) ≡ Lowest t = rw own at e in
+    let same : record { 0 = first } ≡ t = cc in
+    rw (← same) (own, rw own (is-free _ (first-holds freeAt places (holding Free) (omega (arith, all, ltb-true first 32 own))))))
+    (λ over. let h : NoneFree ≡ Lowest t = rw over at e in let z : _≡_ {A = ℕ} 0 1 = cc in absurd (omega arith))
   where
+    first : ℕ
+    first = firstAt freeAt places
+
     is-free : (o : Open) → isFree o ≡ true → o ≡ Free
     is-free Free e = refl
     is-free (Ask q) e = no-tf (sym e)

@@ -16,6 +16,8 @@ use Rattle.tags.specs.declared.Fetch.{Fetch}
 use Rattle.tags.specs.declared.Open.{Open}
 use Rattle.tags.specs.declared.Open.the-variants.{Free, Ask, Read}
 use Rattle.tags.specs.declared.Place.{Place}
+use Rattle.tags.specs.declared.FreeTag.{FreeTag}
+use Rattle.tags.specs.declared.FreeTag.the-variants.{Lowest, NoneFree}
 use Rattle.tags.specs.Itags.{joined}
 
 abbrev pub holding : Open → Place
@@ -40,12 +42,12 @@ isFree (Read f) = false
 abbrev pub freeAt : Place → Bool
 freeAt p = isFree (p .held)
 
--- the lowest free tag, and 32 where all are open
-unfoldable pub freeTag : List Place → Tag
-freeTag places = record { 0 = firstAt freeAt places }
-
 abbrev pub isTag : Tag → Bool
 isTag t = ltb (t .0) 32
+
+-- the lowest free tag, where not all are open
+unfoldable pub freeTag : List Place → FreeTag
+freeTag places = cond (ltb (firstAt freeAt places) 32) (Lowest (record { 0 = firstAt freeAt places })) NoneFree
 
 -- what a tag is open for
 unfoldable pub heldAt : List Place → Tag → Open

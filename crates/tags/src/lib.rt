@@ -10,7 +10,7 @@ ghost use Prim.Native.Nat.{_-_};
 ghost use lib.ListN.{length};
 ghost use Rattle.lemmas.specs.First.{firstAt};
 ghost use Rattle.tags.specs.declared.Open.the-variants.{Ask, Read};
-ghost use Rattle.tags.specs.Tags.{asked, fetching, emptyPlaces, isFree, isTag, freeTag, heldAt, placed, rangeOf, bytesAsked, touches, marked, snooped, isAsk, staled, allStaled, noteOf, noted};
+ghost use Rattle.tags.specs.Tags.{asked, fetching, emptyPlaces, isFree, freeTag, heldAt, placed, rangeOf, bytesAsked, touches, marked, snooped, isAsk, staled, allStaled, noteOf, noted};
 
 // An open Translation Request: the address asked for, how many units beyond the first, the STU that
 // says how large they are, and whether an invalidation has met it. After a first packet of two also the
@@ -44,6 +44,12 @@ pub enum Open {
 
 pub struct Place {
     pub held: Open,
+}
+
+// The lowest free tag, where one is free.
+pub enum FreeTag {
+    Lowest(Tag),
+    NoneFree,
 }
 
 pub fn all_free() -> [Place; 32]
@@ -91,8 +97,7 @@ fn is_free(o: Open) -> bool
     }
 }
 
-// The lowest free tag, and 32 where all are open.
-pub fn lowest_free(places: [Place; 32]) -> Tag
+pub fn lowest_free(places: [Place; 32]) -> FreeTag
     ensures { λ r. ⌜ r ≡ freeTag places ⌝ }
 {
     let mut i: usize = 0;
@@ -100,17 +105,11 @@ pub fn lowest_free(places: [Place; 32]) -> Tag
         let p = places[i];
         let o = p.held;
         if is_free(o) {
-            return Tag(i as u8);
+            return FreeTag::Lowest(Tag(i as u8));
         }
         i += 1;
     }
-    Tag(i as u8)
-}
-
-pub fn is_tag(t: Tag) -> bool
-    ensures { λ r. ⌜ r ≡ isTag t ⌝ }
-{
-    t.0 < 32
+    FreeTag::NoneFree
 }
 
 // What a tag is open for; one above 31 is never open.
@@ -173,30 +172,18 @@ fn is_met(o: Open, range: Range) -> bool
     }
 }
 
-fn stale(t: Tr) -> Open
+fn stale(mut t: Tr) -> Open
     ensures { λ r. ⌜ r ≡ staled (Ask t) ⌝ }
 {
-    Open::Ask(Tr {
-        address: t.address,
-        further: t.further,
-        stu: t.stu,
-        stale: true,
-        size: t.size,
-        whole: t.whole,
-        due: t.due,
-    })
+    t.stale = true;
+    Open::Ask(t)
 }
 
-fn awaited(f: Fetch, itag: ITag) -> Open
+fn awaited(mut f: Fetch, itag: ITag) -> Open
     ensures { λ r. ⌜ r ≡ marked itag (Read f) ⌝ }
 {
-    Open::Read(Fetch {
-        address: f.address,
-        bytes: f.bytes,
-        due: f.due,
-        translated: f.translated,
-        itags: itags::with(f.itags, itag),
-    })
+    f.itags = itags::with(f.itags, itag);
+    Open::Read(f)
 }
 
 // A Translation Request becomes stale, a read is noted as waited for.

@@ -1,3 +1,8 @@
+use mathlib.Core.Path.{sym, ap, _∙_}
+use denote.Ref.{now}
+use Rattle.state.specs.Answers.{ended}
+use Rattle.accesses.specs.declared.Way.{Way}
+use Rattle.accesses.specs.Access.{going}
 use borrow.Author.Needs.{needs}
 use Rattle.accesses.proofs.go.Statement.{statement}
 use Rattle.accesses.proofs.go.Tie as tie
@@ -18,7 +23,10 @@ same-length : tie.Need-same-length
 same-length c = search needs
 
 returns : tie.Need-returns
-returns c = rw (c .before .before .before .before .enum-told .given .1) (c .before .before .read-on-a-tag .ensures)
+returns c = let k = c .before .before .before .before in
+    let a = k .before .before .before .before .args in
+    c .before .before .read-on-a-tag .ensures
+    ∙ ap (λ (way : Way). ended (a .f) (now (a .out)) (going (a .f) way (a .at) (a .a) (now (a .payload)) (now (a .out)))) (sym (k .enum-told .given .1))
 
 same-length-2 : tie.Need-same-length-2
 same-length-2 c = search needs

@@ -22,8 +22,8 @@ answered-requires c κs = search needs
 free-requires-2 : tie.Need-free-requires-2
 free-requires-2 c κs = search needs
 
-switch-off-requires : tie.Need-switch-off-requires
-switch-off-requires c κs = search needs
+with-enable-requires : tie.Need-with-enable-requires
+with-enable-requires c κs = search needs
 
 answered-requires-2 : tie.Need-answered-requires-2
 answered-requires-2 c κs = search needs
@@ -34,7 +34,7 @@ returns-2 c = rw (c .answered .ensures, c .before .free .ensures) (end-skip _ _ 
 
 returns-3 : tie.Need-returns-3
 unfolding untranslated
-returns-3 c = rw (c .answered2 .ensures, c .before .switch-off .ensures, c .before .before .free2 .ensures) (end-skip _ _ _ _ _ _ (ne-eqb _ _ (c .before .before .before .before .if1 .left)) (end-skip _ _ _ _ _ _ (ne-eqb _ _ (c .before .before .before .if2 .left)) refl))
+returns-3 c = rw (c .answered2 .ensures, c .before .with-enable .ensures, c .before .before .free2 .ensures) (end-skip _ _ _ _ _ _ (ne-eqb _ _ (c .before .before .before .before .if1 .left)) (end-skip _ _ _ _ _ _ (ne-eqb _ _ (c .before .before .before .if2 .left)) refl))
 
 pub end-ask-spec : {M : Type 1} → statement M
 end-ask-spec =
@@ -45,7 +45,7 @@ end-ask-spec =
     free-requires
     answered-requires
     free-requires-2
-    switch-off-requires
+    with-enable-requires
     answered-requires-2
     returns-2
     returns-3)

@@ -28,6 +28,9 @@ enum-known-n c = search needs
 without-requires : tie.Need-without-requires
 without-requires c κs = search needs
 
+with-waiting-requires : tie.Need-with-waiting-requires
+with-waiting-requires c κs = search needs
+
 enum-known-r : tie.Need-enum-known-r
 enum-known-r c = search needs
 
@@ -39,11 +42,11 @@ same-length c = search needs
 
 returns-2 : tie.Need-returns-2
 unfolding sendingVector
-returns-2 c = let k = c .before .before .before .before .before .before in
+returns-2 c = let k = c .before .before .before .before .before .before .before in
     let q = k .before .before .before in
     let p = q .completion .ensures in
-    let e = rw (c .before .before .n .given .1, p) at (k .write-packet .ensures .0) in
-    end-skip _ _ _ _ _ _ (ne-eqb _ _ (q .before .if1 .left)) (rw (c .without .ensures) (end-sent _ _ _ _ _ _ _ (rw p at (k .write-packet .ensures .1)) _ e))
+    let e = rw (c .before .before .before .n .given .1, p) at (k .write-packet .ensures .0) in
+    end-skip _ _ _ _ _ _ (ne-eqb _ _ (q .before .if1 .left)) (rw (c .with-waiting .ensures, c .before .without .ensures) (end-sent _ _ _ _ _ _ _ (rw p at (k .write-packet .ensures .1)) _ e))
 
 same-length-2 : tie.Need-same-length-2
 same-length-2 c = search needs
@@ -67,6 +70,7 @@ send-vector-spec =
     write-packet-requires
     enum-known-n
     without-requires
+    with-waiting-requires
     enum-known-r
     refused-requires
     same-length

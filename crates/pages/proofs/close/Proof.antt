@@ -1,3 +1,4 @@
+use Rattle.lemmas.specs.Cases.{cases}
 use Rattle.pages.specs.Pages.{closed}
 use borrow.Author.Needs.{needs}
 use Rattle.pages.proofs.close.Statement.{statement}
@@ -17,8 +18,13 @@ array-set-from-groups c = search needs
 
 returns : tie.Need-returns
 unfolding closed
-returns c = rw (c .no-requests .ensures)
+returns c = rw (c .no-requests .ensures) (search cases depth 12)
+
+returns-2 : tie.Need-returns-2
+unfolding closed
+returns-2 c = search cases depth 12
 
 pub close-spec : {M : Type 1} → statement M
 close-spec =
-    tie.close (tie.spec cast-i no-requests-requires mul-groups array-set-from-groups returns)
+    tie.close
+    (tie.spec cast-i no-requests-requires mul-groups array-set-from-groups returns returns-2)

@@ -1,4 +1,4 @@
-use mathlib.Core.Path.{refl}
+use Rattle.lemmas.specs.Cases.{cases}
 use Rattle.pages.specs.Pages.{isWaiting}
 use borrow.Author.Needs.{needs}
 use Rattle.pages.proofs.is_waiting.Statement.{statement}
@@ -15,7 +15,11 @@ element-copy-out-result c = search needs
 
 returns : tie.Need-returns
 unfolding isWaiting
-returns c = refl
+returns c = search cases depth 12
+
+returns-2 : tie.Need-returns-2
+unfolding isWaiting
+returns-2 c = search cases depth 12
 
 pub is-waiting-spec : {M : Type 1} → statement M
-is-waiting-spec = tie.close (tie.spec cast-i mul-result element-copy-out-result returns)
+is-waiting-spec = tie.close (tie.spec cast-i mul-result element-copy-out-result returns returns-2)

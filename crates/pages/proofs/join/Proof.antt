@@ -1,3 +1,4 @@
+use Rattle.lemmas.specs.Cases.{cases}
 use Rattle.pages.specs.Pages.{joined}
 use borrow.Author.Needs.{needs}
 use Rattle.pages.proofs.join.Statement.{statement}
@@ -23,7 +24,11 @@ array-set-from-groups c = search needs
 
 returns : tie.Need-returns
 unfolding joined
-returns c = rw (c .wrapping-add-u16 .ensures)
+returns c = rw (c .wrapping-add-u16 .ensures) (search cases depth 12)
+
+returns-2 : tie.Need-returns-2
+unfolding joined
+returns-2 c = search cases depth 12
 
 pub join-spec : {M : Type 1} → statement M
 join-spec =
@@ -35,4 +40,5 @@ join-spec =
     wrapping-add-u16-requires
     mul-groups
     array-set-from-groups
-    returns)
+    returns
+    returns-2)

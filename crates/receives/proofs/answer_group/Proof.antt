@@ -6,8 +6,8 @@ use borrow.Author.Needs.{needs}
 use Rattle.receives.proofs.answer_group.Statement.{statement}
 use Rattle.receives.proofs.answer_group.Tie as tie
 
-is-awaited-requires : tie.Need-is-awaited-requires
-is-awaited-requires c κs = search needs
+is-waiting-requires : tie.Need-is-waiting-requires
+is-waiting-requires c κs = search needs
 
 close-group-requires : tie.Need-close-group-requires
 close-group-requires c κs = search needs
@@ -34,12 +34,12 @@ returns : tie.Need-returns
 unfolding respondedOn
 returns c = let k = c .before .before .before in
     rw (c .answered .ensures, c .before .with-pages .ensures, c .before .before .close-group .ensures)
-    (end-take _ _ _ _ _ _ (le-leb _ _ (k .before .before .if1 .taken)) (end-take _ _ _ _ _ _ (sym (k .before .is-awaited .ensures) ∙ k .if2 .taken) refl))
+    (end-take _ _ _ _ _ _ (le-leb _ _ (k .before .before .if1 .taken)) (end-take _ _ _ _ _ _ (sym (k .before .is-waiting .ensures) ∙ k .if2 .taken) refl))
 
 returns-2 : tie.Need-returns-2
 unfolding respondedOn
 returns-2 c = rw (c .refused .ensures)
-    (end-take _ _ _ _ _ _ (le-leb _ _ (c .before .before .before .if1 .taken)) (end-skip _ _ _ _ _ _ (sym (c .before .before .is-awaited .ensures) ∙ c .before .if2 .left) refl))
+    (end-take _ _ _ _ _ _ (le-leb _ _ (c .before .before .before .if1 .taken)) (end-skip _ _ _ _ _ _ (sym (c .before .before .is-waiting .ensures) ∙ c .before .if2 .left) refl))
 
 returns-3 : tie.Need-returns-3
 unfolding respondedOn
@@ -50,7 +50,7 @@ pub answer-group-spec : {M : Type 1} → statement M
 answer-group-spec =
     tie.close
     (tie.spec
-    is-awaited-requires
+    is-waiting-requires
     close-group-requires
     with-pages-requires
     answered-requires

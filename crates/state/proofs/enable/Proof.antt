@@ -18,12 +18,24 @@ empty-requires c κs = search needs
 stale-all-requires : tie.Need-stale-all-requires
 stale-all-requires c κs = search needs
 
+with-places-requires : tie.Need-with-places-requires
+with-places-requires c κs = search needs
+
+with-cache-requires : tie.Need-with-cache-requires
+with-cache-requires c κs = search needs
+
+with-enable-requires : tie.Need-with-enable-requires
+with-enable-requires c κs = search needs
+
 answered-requires-2 : tie.Need-answered-requires-2
 answered-requires-2 c κs = search needs
 
 returns-2 : tie.Need-returns-2
 unfolding enabling
-returns-2 c = simp (c .answered2 .ensures, c .before .stale-all .ensures, c .before .before .empty .ensures) (end-skip _ _ _ _ _ _ (c .before .before .before .before .if1 .left) refl)
+returns-2 c = let k = c .before .before .before in
+    let q = k .before .before in
+    simp (c .answered2 .ensures, c .before .with-enable .ensures, c .before .before .with-cache .ensures, k .with-places .ensures, k .before .stale-all .ensures, q .empty .ensures)
+    (end-skip _ _ _ _ _ _ (q .before .before .before .if1 .left) refl)
 
 pub enable-spec : {M : Type 1} → statement M
 enable-spec =
@@ -33,5 +45,8 @@ enable-spec =
     returns
     empty-requires
     stale-all-requires
+    with-places-requires
+    with-cache-requires
+    with-enable-requires
     answered-requires-2
     returns-2)

@@ -1,7 +1,8 @@
-use mathlib.Core.Path.{_≡_, sym, ap, _∙_}
-use Prim.Native.Nat.{ℕ, _+_, _-_, _≤_}
+use mathlib.Core.Path.{_≡_, sym, _∙_}
+use Prim.Native.Nat.{_+_, _-_, _≤_}
 use native.Mathlib.Omega.{arith}
 use lib.ListN.{length, drop}
+use borrow.Author.Tests.{lt-ltb, le-ltb}
 use Rattle.lemmas.specs.First.{firstAt, first-start, first-step, first-here, first-end}
 use Rattle.tags.specs.Tags.{freeAt, freeTag}
 use borrow.Author.Needs.{needs}
@@ -31,7 +32,10 @@ cast-t12 c = search needs
 
 returns : tie.Need-returns Inv-loop μ-loop
 unfolding freeTag
-returns c = ap (λ (n : ℕ). record { 0 = n }) (first-here _ _ _ _ (omega arith) (sym (c .before .is-free .ensures) ∙ c .if1 .taken) (c .before .before .before .before .loop .inv .2))
+returns c =
+    let here = first-here _ _ _ _ (omega arith) (sym (c .before .is-free .ensures) ∙ c .if1 .taken) (c .before .before .before .before .loop .inv .2) in
+    let below = lt-ltb (c .before .before .before .before .loop .i) 32 (omega arith) in
+    rw (← here, below)
 
 add-i : tie.Need-add-i Inv-loop μ-loop
 add-i c = search needs
@@ -43,12 +47,12 @@ loop-again : tie.Need-loop-again Inv-loop μ-loop
 loop-again c = let inv = c .before .before .before .before .loop .inv in
     (inv .0, search needs, first-step _ _ _ _ (omega arith) (sym (c .before .is-free .ensures) ∙ c .if1 .left) (inv .2))
 
-cast-t13 : tie.Need-cast-t13 Inv-loop μ-loop
-cast-t13 c = search needs
-
 returns-2 : tie.Need-returns-2 Inv-loop μ-loop
 unfolding freeTag
-returns-2 c = ap (λ (n : ℕ). record { 0 = n }) (first-end _ _ _ (omega arith) (c .before .loop .inv .2))
+returns-2 c =
+    let past = first-end _ _ _ (omega arith) (c .before .loop .inv .2) in
+    let over = le-ltb (c .before .loop .i) 32 (omega arith) in
+    rw (← past, over)
 
 pub lowest-free-spec : {M : Type 1} → statement M
 lowest-free-spec =
@@ -65,5 +69,4 @@ lowest-free-spec =
     add-i
     loop-less
     loop-again
-    cast-t13
     returns-2)

@@ -4,13 +4,13 @@ use Prim.Native.Nat.{_-_, _≤_}
 use native.Mathlib.Omega.{arith}
 use lib.ListN.{length}
 use Rattle.lemmas.specs.Maps.{mapTo, map-turn, map-keep, map-end}
-use Rattle.atc.specs.Cache.{cut, nothing, spanDropped}
+use Rattle.atc.specs.Cache.{entryDropped, nothing}
 use borrow.Author.Needs.{needs}
-use Rattle.atc.proofs.drop_span.Statement.{statement}
-use Rattle.atc.proofs.drop_span.Tie as tie
+use Rattle.atc.proofs.drop_slots.Statement.{statement}
+use Rattle.atc.proofs.drop_slots.Tie as tie
 
 abbrev Inv-loop : tie.InvT-loop
-Inv-loop stu range slots₀ i₀ slots i = (length slots₀ ≡ 32) × (i ≤ 32) × (slots ≡ mapTo (cut stu range) i slots₀)
+Inv-loop stu range slots₀ i₀ slots i = (length slots₀ ≡ 32) × (i ≤ 32) × (slots ≡ mapTo (entryDropped stu range) i slots₀)
 
 abbrev μ-loop : tie.MeasureT-loop
 μ-loop stu range slots₀ i₀ slots i = 32 - i
@@ -56,13 +56,12 @@ loop-again c =
     )
 
 returns : tie.Need-returns Inv-loop μ-loop
-unfolding spanDropped
 returns c = let slots = c .before .before .args .t1 in
     let done : length slots ≤ c .before .loop .i = omega arith in
     c .before .loop .inv .2 ∙ map-end _ _ slots done
 
-pub drop-span-spec : {M : Type 1} → statement M
-drop-span-spec =
+pub drop-slots-spec : {M : Type 1} → statement M
+drop-slots-spec =
     tie.close
     (tie.spec
     Inv-loop

@@ -2,26 +2,23 @@ use mathlib.Core.Path.{_≡_}
 use Prim.Native.Nat.{_≤_, _-_}
 use lib.ListN.{length}
 use borrow.Author.Needs.{needs}
-use Rattle.snapshot.proofs.put_slots.Statement.{statement}
-use Rattle.snapshot.proofs.put_slots.Tie as tie
+use Rattle.snapshot.proofs.put_entries.Statement.{statement}
+use Rattle.snapshot.proofs.put_entries.Tie as tie
 
 abbrev Inv-loop : tie.InvT-loop
-Inv-loop out₀ at slots next₀ i₀ out next i = (length slots ≡ 32) × (i ≤ 32) × (length out ≡ length out₀)
+Inv-loop cache out₀ at next₀ i₀ out next i = (i ≤ 32) × (length out ≡ length out₀)
 
 abbrev μ-loop : tie.MeasureT-loop
-μ-loop out₀ at slots next₀ i₀ out next i = 32 - i
+μ-loop cache out₀ at next₀ i₀ out next i = 32 - i
 
 loop-holds : tie.Need-loop-holds Inv-loop μ-loop
 loop-holds c = search needs
 
-mul-e : tie.Need-mul-e Inv-loop μ-loop
-mul-e c = search needs
+entry-at-requires : tie.Need-entry-at-requires Inv-loop μ-loop
+entry-at-requires c κs = search needs
 
-array-copy-out-e : tie.Need-array-copy-out-e Inv-loop μ-loop
-array-copy-out-e c = search needs
-
-put-slot-requires : tie.Need-put-slot-requires Inv-loop μ-loop
-put-slot-requires c κs = search needs
+put-entry-requires : tie.Need-put-entry-requires Inv-loop μ-loop
+put-entry-requires c κs = search needs
 
 add-i : tie.Need-add-i Inv-loop μ-loop
 add-i c = search needs
@@ -38,16 +35,15 @@ same-length c = search needs
 returns : tie.Need-returns Inv-loop μ-loop
 returns c = search needs
 
-pub put-slots-spec : {M : Type 1} → statement M
-put-slots-spec =
+pub put-entries-spec : {M : Type 1} → statement M
+put-entries-spec =
     tie.close
     (tie.spec
     Inv-loop
     μ-loop
     loop-holds
-    mul-e
-    array-copy-out-e
-    put-slot-requires
+    entry-at-requires
+    put-entry-requires
     add-i
     loop-less
     loop-again

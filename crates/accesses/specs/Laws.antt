@@ -1,5 +1,6 @@
 -- What an access that goes somewhere passed.
 use mathlib.Core.Path.{_≡_, _∙_}
+use mathlib.Core.List.{[], _∷_}
 use Prim.Native.Nat.{ℕ, _%_, _≤_}
 use native.Mathlib.Omega.{arith}
 use lib.Dec.{leb, eqb}
@@ -9,6 +10,7 @@ use Rattle.span.specs.Range.{unitExponent}
 use Rattle.span.specs.Runs.{moved-low}
 use Rattle.packet.specs.Numbers.{gives}
 use Rattle.packet.specs.Laws.{demanded, same-gift}
+use Rattle.packet.specs.Among.{Among, among}
 use Rattle.atc.specs.declared.Entry.{Entry}
 use Rattle.atc.specs.declared.Found.{Found}
 use Rattle.atc.specs.declared.Found.the-variants.{Hit, Miss}
@@ -48,3 +50,13 @@ reached f a load at e =
       fills = eqb-true load (loadFor (a .way) (a .words)) (load-is .0);
       dword = entered-dword (a .way) (f .stu) (a .address) (found (f .cache) (unitAt (f .stu) (a .address))) at (eqb-true (a .address % 4) 0 (dword .0)) (load-is .1);
     }
+
+-- ---- the numbers of a look-up
+
+entering-numbers : (way : Way) (stu address : ℕ) (entry : Found) → Among (6 ∷ 12 ∷ 13 ∷ 14 ∷ []) (enteredBy way stu address entry)
+entering-numbers way stu address Miss = search among
+entering-numbers way stu address (Hit e) = search among
+
+pub lookingUp-numbers : (f : Function) (a : Accessing) (load : ℕ) → Among (6 ∷ 12 ∷ 13 ∷ 14 ∷ []) (lookingUp f a load)
+unfolding lookingUp
+lookingUp-numbers f a load = search (among, entering-numbers)

@@ -34,7 +34,7 @@ use Rattle.receives.specs.Receive.{taken, received}
 use Rattle.card.specs.declared.Command.the-variants.{Receive}
 use Rattle.card.specs.Call.{calling, step}
 use Rattle.card.specs.Tables.{Completing}
-use Rattle.card.specs.Kept.{Sound}
+use Rattle.card.specs.Sound.{Sound}
 
 module _ (f : Function) (bytes out : List ℕ) (c : Completion) (comes : Completing Receive bytes c) where
   abbrev after : Function

@@ -1,20 +1,17 @@
 -- What a call can do to the tables.
 use mathlib.Core.Path.{_≡_, refl}
-use mathlib.Core.Bool.{Bool, true, false}
+use mathlib.Core.Bool.{true, false}
 use mathlib.Core.List.{List}
 use Prim.Native.Nat.{ℕ}
-use lib.ListN.{length}
 use Rattle.span.specs.declared.Range.{Range}
 use Rattle.packet.specs.declared.Tag.{Tag}
 use Rattle.packet.specs.declared.ITag.{ITag}
 use Rattle.packet.specs.declared.PageRequest.{PageRequest}
 use Rattle.packet.specs.declared.PrgIndex.{PrgIndex}
 use Rattle.packet.specs.declared.Packet.{Packet}
-use Rattle.packet.specs.declared.Body.{Body}
-use Rattle.packet.specs.declared.Body.the-variants.{Tr, Mem, Cpl, Inv, Ic, Prq, Prs}
+use Rattle.packet.specs.declared.Body.the-variants.{Cpl}
 use Rattle.packet.specs.declared.Completion.{Completion}
-use Rattle.packet.specs.declared.InvalidateRequest.{InvalidateRequest}
-use Rattle.packet.specs.Numbers.{Said, gives, number}
+use Rattle.packet.specs.Numbers.{gives}
 use Rattle.packet.specs.Reading.{reading, payloadIn}
 use Rattle.atc.specs.declared.Cache.{Cache}
 use Rattle.atc.specs.Cache.{blank, emptied, rangeDropped}
@@ -22,37 +19,22 @@ use Rattle.tags.specs.declared.Open.{Open}
 use Rattle.tags.specs.declared.Open.the-variants.{Ask}
 use Rattle.tags.specs.declared.Tr.{Tr as Request}
 use Rattle.tags.specs.declared.Place.{Place}
-use Rattle.tags.specs.declared.FreeTag.{FreeTag}
-use Rattle.tags.specs.declared.FreeTag.the-variants.{Lowest, NoneFree}
-use Rattle.tags.specs.Tags.{emptyPlaces, freeTag, heldAt, placed, snooped, allStaled}
-use Rattle.pages.specs.declared.Interface.{Interface}
-use Rattle.pages.specs.declared.Interface.the-variants.{Off, On, Stopped}
+use Rattle.tags.specs.Tags.{emptyPlaces, heldAt, placed, snooped, allStaled}
 use Rattle.pages.specs.declared.Pages.{Pages}
 use Rattle.pages.specs.Pages.{switchedOff, switchedOn, stopped, isSpent}
 use Rattle.replies.specs.Fills.{applied}
-use Rattle.state.specs.declared.Resetting.{Resetting}
-use Rattle.asks.specs.declared.Asking.{Asking}
-use Rattle.accesses.specs.declared.Accessing.{Accessing}
 use Rattle.state.specs.declared.Function.{Function}
 use Rattle.state.specs.Answers.{Deed}
-use Rattle.state.specs.Switches.{resetting, enabling, disabling, isGranted, switchingOn, switchingOff}
-use Rattle.state.specs.Laws.{Does, does, ended-in}
-use Rattle.accesses.specs.declared.Way.{Way}
-use Rattle.accesses.specs.declared.Way.the-variants.{Read as ToRead, Write as ToWrite}
-use Rattle.accesses.specs.declared.Target.{Target}
-use Rattle.asks.specs.Ask.{askOn, asking}
-use Rattle.accesses.specs.Access.{lookingUp, readOn, going, goingIf, accessing}
-use Rattle.drains.specs.Drain.{sendingVector, draining}
-use Rattle.requests.specs.PageRequests.{requested, requestingOn, requesting}
-use Rattle.completions.specs.Completions.{completed}
-use Rattle.completions.specs.Laws.{completed-keeps}
+use Rattle.state.specs.Switches.{isGranted}
+use Rattle.state.specs.Laws.{Does, does-plain, does-number, does-send, ended-in}
+use Rattle.requests.specs.PageRequests.{requested}
 use Rattle.completions.specs.Translations.{isLive}
-use Rattle.snoops.specs.Invalidate.{invalidated}
-use Rattle.receives.specs.Responses.{answeredIn, respondedOn, responded}
-use Rattle.receives.specs.Receive.{taken, takenIf, received}
+use Rattle.receives.specs.Responses.{answeredIn}
+use Rattle.receives.specs.Receive.{received}
 use Rattle.card.specs.declared.Command.{Command}
-use Rattle.card.specs.declared.Command.the-variants.{Reset, Enable, Disable, Ask as Asks, Access, Receive, Drain, PagesOn, PagesOff, PageRequest as PageRequests}
+use Rattle.card.specs.declared.Command.the-variants.{Receive}
 use Rattle.card.specs.Call.{calling, step}
+use Rattle.card.specs.Cases.{Completes, Cases, cases}
 
 -- the call receives a completion
 pub record Completing (c : Command) (bytes : List ℕ) (x : Completion) : Type 0 where
@@ -84,108 +66,42 @@ module _ (f : Function) (c : Command) (bytes : List ℕ) (P : Cache → List Pla
   abbrev Over : Deed → Type 0
   Over d = P (d .state .cache) (d .state .places) (d .state .pages)
 
-  resets : (a : Resetting) → Does Over (resetting a)
-  unfolding resetting
-  resets a = search (does, k .reset)
+  completing : (x : Completion) → Completes f bytes x → c ≡ Receive → Completing c bytes x
+  completing x a e = record { receives = e; packet = a .packet; reads = a .reads; body = a .is }
 
-  enables : Does Over (enabling f)
-  unfolding enabling
-  enables = search (does, k .same, k .enable)
-
-  disables : Does Over (disabling f)
-  unfolding disabling
-  disables = search (does, k .same)
-
-  switches-on : (allocation : ℕ) (i : Interface) → Does Over (switchingOn f allocation i)
-  unfolding switchingOn
-  switches-on allocation Off = search (does, k .switchOn)
-  switches-on allocation On = search does
-  switches-on allocation Stopped = search does
-
-  switches-off : (i : Interface) → Does Over (switchingOff f i)
-  unfolding switchingOff
-  switches-off Off = search (does, k .same)
-  switches-off On = search (does, k .switchOff)
-  switches-off Stopped = search (does, k .same)
-
-  asks : (a : Asking) (out : List ℕ) → Does Over (asking f a out)
-  unfolding asking
-  asks a out = search (does, on)
-    where
-      on : (x : FreeTag) → Does Over (askOn f x a out)
-      on (Lowest t) = search (does, k .place)
-      on NoneFree = search does
-
-  goes : (way : Way) (at : Target) (a : Accessing) (load out : List ℕ) → Does Over (going f way at a load out)
-  goes ToRead at a load out = on (freeTag (f .places))
-    where
-      on : (x : FreeTag) → Does Over (readOn f x at a load out)
-      on (Lowest t) = search (does, k .place)
-      on NoneFree = search does
-  goes ToWrite at a load out = search (does, k .same)
-
-  accesses : (a : Accessing) (load out : List ℕ) → Does Over (accessing f a load out)
-  unfolding accessing
-  accesses a load out = go (lookingUp f a (length load))
-    where
-      go : (s : Said Target) → Does Over (goingIf f a load out s)
-      go (gives at) = goes (a .way) at a load out
-      go (number n) = search does
-
-  drains : (out : List ℕ) → Does Over (draining f out)
-  unfolding sendingVector
-  drains out = search (does, k .same)
-
-  requests : (q : PageRequest) (out : List ℕ) (i : Interface) → Does Over (requesting f q out i)
-  unfolding requestingOn
-  requests q out Off = search does
-  requests q out On = search (does, k .request)
-  requests q out Stopped = search does
-
-  completes : (x : Completion) → Completing c bytes x → Does Over (completed f x (payloadIn bytes))
-  completes x r = completed-keeps f x (payloadIn bytes) P (k .place (x .tag)) (λ q o. k .fill x q o r)
-
-  invalidates : (from : ℕ) (i : InvalidateRequest) → Does Over (invalidated f from i)
-  unfolding invalidated
-  invalidates from i = search (does, k .snoop)
-
-  responds : (code : ℕ) (x : PrgIndex) (i : Interface) → Does Over (responded f code x i)
-  unfolding respondedOn
-  responds code x Off = search does
-  responds code x On = search (does, k .answer, k .stop)
-  responds code x Stopped = search does
-
-  takes : c ≡ Receive → (p : Packet) → reading bytes ≡ gives p → (b : Body) → p .body ≡ b → Does Over (taken f (p .head .sender) (payloadIn bytes) b)
-  unfolding taken
-  takes r p e (Tr t) q = search does
-  takes r p e (Mem m) q = search does
-  takes r p e (Cpl x) q = search (does, completes x (record { receives = r; packet = p; reads = e; body = q }))
-  takes r p e (Inv i) q = search (does, invalidates)
-  takes r p e (Ic i) q = search does
-  takes r p e (Prq g) q = search does
-  takes r p e (Prs g) q = search (does, responds)
-
-  receives : c ≡ Receive → Does Over (received f bytes)
-  unfolding received
-  receives r = go (reading bytes) refl
-    where
-      go : (s : Said Packet) → reading bytes ≡ s → Does Over (takenIf f (payloadIn bytes) s)
-      go (gives p) e = takes r p e (p .body) refl
-      go (number n) e = search does
-
-  calls : (x : Command) (out : List ℕ) → c ≡ x → Does Over (calling f x bytes out)
-  unfolding calling
-  calls (Reset a) out e = resets a
-  calls Enable out e = enables
-  calls Disable out e = disables
-  calls (Asks a) out e = asks a out
-  calls (Access a) out e = accesses a bytes out
-  calls Receive out e = receives e
-  calls Drain out e = drains out
-  calls (PagesOn allocation) out e = switches-on allocation (f .pages .interface)
-  calls PagesOff out e = switches-off (f .pages .interface)
-  calls (PageRequests q) out e = requests q out (f .pages .interface)
+  each : (out : List ℕ) → Cases f bytes out (λ x s. c ≡ x → Does Over s)
+  each out =
+      record {
+        refused = λ x n l e. does-number Over n;
+        refusedKind = λ p r n l e. does-number Over n;
+        reset = λ a s b e. does-plain Over _ _ (k .reset);
+        enabled = λ e. does-plain Over _ _ (k .same);
+        enable = λ e. does-plain Over _ _ (k .enable);
+        disable = λ e. does-plain Over _ _ (k .same);
+        pagesOn = λ n g e. does-plain Over _ _ (k .switchOn n g);
+        pagesOff = λ e. does-plain Over _ _ (k .switchOff);
+        pagesNotOn = λ e. does-plain Over _ _ (k .same);
+        ask = λ a t few free e. does-send Over _ _ _ _ _ (λ n. k .place t _);
+        read = λ a at t w l free e. does-send Over _ _ _ _ _ (λ n. k .place t _);
+        write = λ a at w l e. does-send Over _ _ _ _ _ (λ n. k .same);
+        drainsNone = λ z e. does-plain Over _ _ (k .same);
+        drains = λ e. does-send Over _ _ _ _ _ (λ n. k .same);
+        page = λ q a s e. does-send Over _ _ _ _ _ (λ n. k .request q s);
+        readEnds = λ x r n a h d y z e. does-plain Over _ _ (k .place (x .tag) _);
+        readGoesOn = λ x r n a h d y z m e. does-plain Over _ _ (k .place (x .tag) _);
+        readFails = λ x r s a h d z e. does-plain Over _ _ (k .place (x .tag) _);
+        aborts = λ x q s a h d z e. does-plain Over _ _ (k .place (x .tag) _);
+        switchesOff = λ x q s a h d z e. does-plain Over _ _ (k .place (x .tag) _);
+        offBoundary = λ x q n a h d j e. does-plain Over _ _ (k .place (x .tag) _);
+        firstDiscarded = λ x q n a h d j e. does-plain Over _ _ (k .place (x .tag) _);
+        lastDiscarded = λ x q n a h d j e. does-plain Over _ _ (k .place (x .tag) _);
+        firstFills = λ x q n a h d j l e. does-plain Over _ _ (k .fill x q _ (completing x a e) h l);
+        lastFills = λ x q n a h d j l e. does-plain Over _ _ (k .fill x q _ (completing x a e) h l);
+        invalidates = λ i a o w e. does-plain Over _ _ (k .snoop _ (i .itag));
+        answersGroup = λ s a e. does-plain Over _ _ (k .answer (s .index));
+        stopsPages = λ s a e. does-plain Over _ _ (k .stop);
+      }
 
   -- then it holds after the call
   pub step-keeps : (out : List ℕ) → P (step f c bytes out .state .cache) (step f c bytes out .state .places) (step f c bytes out .state .pages)
-  step-keeps out = ended-in (λ g. P (g .cache) (g .places) (g .pages)) f out (calling f c bytes out) (k .same) (calls c out refl)
+  step-keeps out = ended-in (λ g. P (g .cache) (g .places) (g .pages)) f out (calling f c bytes out) (k .same) (cases f bytes out _ (each out) c refl)

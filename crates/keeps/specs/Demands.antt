@@ -53,8 +53,8 @@ use Rattle.snoops.specs.Invalidate.{exponentOf}
 use Rattle.card.specs.declared.Command.{Command}
 use Rattle.card.specs.declared.Command.the-variants.{Reset, Enable, Disable, Ask, Access as Accesses, Receive, Drain, PagesOn, PagesOff, PageRequest}
 use Rattle.card.specs.Call.{step}
-use Rattle.card.specs.Refused.{numbersOf}
-use Rattle.card.specs.Kept.{Sound}
+use Rattle.card.specs.Numbers.{numbersOf}
+use Rattle.card.specs.Sound.{Sound}
 use Rattle.card.proofs.call.Statement.{statement as CallMeetsItsContract}
 use Rattle.demand.specs.Demand.{given, Terms, Taken, CPL, INV, DRAIN, Sent, TR, READ, WRITE, IC, Observer, Machine, Bench, waits, next, resets, after, history, Unbroken, Order}
 

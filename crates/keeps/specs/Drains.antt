@@ -24,8 +24,8 @@ use Rattle.state.specs.declared.Function.{Function}
 use Rattle.state.specs.declared.Agent.{Agent}
 use Rattle.state.specs.declared.Agent.the-variants.{Unknown, Known}
 use Rattle.state.specs.State.{headOf, withWaiting}
-use Rattle.state.specs.Laws.{Does, does-case}
-use Rattle.drains.specs.Drain.{agentId, completionFrom, readyOf, sendingVector, draining}
+use Rattle.state.specs.Laws.{Does}
+use Rattle.drains.specs.Drain.{agentId, completionFrom, readyOf}
 use Rattle.card.specs.declared.Command.the-variants.{Drain}
 use Rattle.lemmas.specs.Bools.{no-tf, no-some}
 use Rattle.demand.specs.Demand.{Ticket, noneBelow, DRAIN, IC}
@@ -34,6 +34,8 @@ use Rattle.demand.specs.Theorem.{none-not}
 use Rattle.tlp.specs.Words.{areBytes}
 use Rattle.keeps.specs.Demands.{isTyped, Call, Noted, itag, isListed}
 use Rattle.keeps.specs.Views.{own-packet, tag, isAgent, view, Ok, Good, good-plain, good-send}
+use lib.Count.{ones}
+use Rattle.state.specs.Answers.{plainly, sending, carries}
 
 none-all : (n : ℕ) (f : ℕ → Bool) → ((t : ℕ) → t < n → f t ≡ false) → noneBelow n f ≡ true
 none-all zero f h = refl
@@ -66,10 +68,10 @@ module _ (places : List Place) (i : ITag) (all : length places ≡ 32) where
 -- ---- truth values
 
 -- e: it is the agent's; l: it has a number below 32; w: it waits; n: a read notes it
-carries : (e l w n : Bool) → (e && (l && (w && not n))) ≡ ((e && (l && w)) && not n)
-carries true true w n = refl
-carries true false w n = refl
-carries false l w n = refl
+regroup : (e l w n : Bool) → (e && (l && (w && not n))) ≡ ((e && (l && w)) && not n)
+regroup true true w n = refl
+regroup true false w n = refl
+regroup false l w n = refl
 
 stays : (e l w n : Bool) → (e && (l && (w && not (w && not n)))) ≡ (not (e && (l && (w && not n))) && (e && (l && w)))
 stays true true true true = refl
@@ -125,7 +127,7 @@ module _ (me : Noted) (f : Function) (o : Ok me f) (bytes out : List ℕ) (ty : 
         through = λ b k e. no-some e;
         waiting = λ i. refl;
         waitsFor = λ i t e. refl;
-        carried = λ i. sym (ap (λ (x : Bool). view f .waiting i && x) (waits-for-none i) ∙ sym (carries (isAgent (f .agent) (i .agent)) (ltb (i .number) 32) (isIn (f .waiting) (itag (i .number))) (isIn (noted (f .places)) (itag (i .number))))
+        carried = λ i. sym (ap (λ (x : Bool). view f .waiting i && x) (waits-for-none i) ∙ sym (regroup (isAgent (f .agent) (i .agent)) (ltb (i .number) 32) (isIn (f .waiting) (itag (i .number))) (isIn (noted (f .places)) (itag (i .number))))
             ∙ rw (← ready-in (itag (i .number)), z, in-none (itag (i .number)), and-false (ltb (i .number) 32)) (and-false (isAgent (f .agent) (i .agent))));
         first = λ i a p. no-some p;
         lasts = λ g e. e;
@@ -156,7 +158,7 @@ module _ (me : Noted) (f : Function) (o : Ok me f) (bytes out : List ℕ) (ty : 
       carries-by : (g : Agent) → f .agent ≡ g → (i : Ticket) → (eqb (i .agent) (agentId g) && (ltb (i .number) 32 && (isIn (f .waiting) (itag (i .number)) && not (isIn (noted (f .places)) (itag (i .number))))))
           ≡ ((isAgent g (i .agent) && (ltb (i .number) 32 && isIn (f .waiting) (itag (i .number)))) && not (isIn (noted (f .places)) (itag (i .number))))
       carries-by Unknown e i = rw (unknown e (itag (i .number)), and-false (ltb (i .number) 32)) (and-false (eqb (i .agent) 0))
-      carries-by (Known id) e i = carries (eqb (i .agent) id) (ltb (i .number) 32) (isIn (f .waiting) (itag (i .number))) (isIn (noted (f .places)) (itag (i .number)))
+      carries-by (Known id) e i = regroup (eqb (i .agent) id) (ltb (i .number) 32) (isIn (f .waiting) (itag (i .number))) (isIn (noted (f .places)) (itag (i .number)))
 
       stays-by : (g : Agent) → f .agent ≡ g → (i : Ticket)
           → (isAgent g (i .agent) && (ltb (i .number) 32 && (isIn (f .waiting) (itag (i .number)) && not (isIn (f .waiting) (itag (i .number)) && not (isIn (noted (f .places)) (itag (i .number)))))))
@@ -164,9 +166,9 @@ module _ (me : Noted) (f : Function) (o : Ok me f) (bytes out : List ℕ) (ty : 
       stays-by Unknown e i = sym (and-false (not (eqb (i .agent) 0 && (ltb (i .number) 32 && (isIn (f .waiting) (itag (i .number)) && not (isIn (noted (f .places)) (itag (i .number))))))))
       stays-by (Known id) e i = stays (eqb (i .agent) id) (ltb (i .number) 32) (isIn (f .waiting) (itag (i .number))) (isIn (noted (f .places)) (itag (i .number)))
 
-  pub good-drain : Does (Good me f drain-call) (draining f out)
-  unfolding sendingVector
+  pub good-idle : eqb (readyOf f) 0 ≡ true → Does (Good me f drain-call) (plainly f (carries 0))
+  good-idle e = good-plain me f drain-call _ _ o (idle-step (eqb-true (readyOf f) 0 e))
+
+  pub good-drain : Does (Good me f drain-call) (sending left (carries (ones (readyOf f))) (completionFrom (f .id) (f .agent) (readyOf f)) [] out)
   good-drain =
-      does-case _ (eqb (readyOf f) 0) _ _
-      (λ e. good-plain me f drain-call _ _ o (idle-step (eqb-true (readyOf f) 0 e)))
-      (λ e. good-send me f drain-call _ _ (completionFrom (f .id) (f .agent) (readyOf f)) [] (typed-completion (headOf (f .id)) (o .id) _ (o .agent) (omega (arith, o .vector, without-le (f .waiting) (noted (f .places))))) (own-packet me (completionFrom (f .id) (f .agent) (readyOf f)) (o .own) refl refl) left-ok (λ i. refl) sent-step)
+      good-send me f drain-call _ _ (completionFrom (f .id) (f .agent) (readyOf f)) [] (typed-completion (headOf (f .id)) (o .id) _ (o .agent) (omega (arith, o .vector, without-le (f .waiting) (noted (f .places))))) (own-packet me (completionFrom (f .id) (f .agent) (readyOf f)) (o .own) refl refl) left-ok (λ i. refl) sent-step

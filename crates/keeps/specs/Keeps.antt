@@ -24,8 +24,7 @@ use Rattle.state.specs.declared.Function.{Function}
 use Rattle.state.specs.State.{fresh, isRcb, rcbOf}
 use Rattle.state.specs.Answers.{Deed, Result, ended}
 use Rattle.state.specs.Switches.{resetting}
-use Rattle.state.specs.Laws.{Does, does-number, does-case}
-use Rattle.state.specs.declared.Resetting.{Resetting}
+use Rattle.state.specs.Laws.{Does, does-number}
 use Rattle.card.specs.declared.Command.{Command}
 use Rattle.card.specs.declared.Command.the-variants.{Reset, Enable, Disable, Ask as Asks, Access as Accesses, Receive, Drain, PagesOn, PagesOff, PageRequest}
 use Rattle.card.specs.Call.{calling, step}
@@ -35,39 +34,57 @@ use Rattle.demand.specs.Laws.{Step}
 use Rattle.demand.specs.Theorem.{Blank, Lawful, ok-run, told-run, order}
 use Rattle.tlp.specs.Words.{areBytes}
 use Rattle.keeps.specs.Demands.{isTyped, Call, isRefused, isReset, Noted, notedAfter, callTaken, packetSent, isPacket, card}
-use Rattle.keeps.specs.Views.{tag, pendingOf, view, Ok, Good, quiet}
-use Rattle.keeps.specs.Sends.{good-enable, good-disable, good-on, good-off, good-ask, good-access, good-page}
-use Rattle.keeps.specs.Drains.{good-drain}
-use Rattle.keeps.specs.Receives.{good-receive}
+use Rattle.keeps.specs.Views.{tag, pendingOf, view, Ok, Good, good-plain, quiet}
+use Rattle.keeps.specs.Sends.{same-ok, good-enable, good-ask, good-read, good-write, good-page}
+use Rattle.keeps.specs.Drains.{good-idle, good-drain}
+use Rattle.keeps.specs.Receives.{good-ends, good-goes-on, good-fails, good-aborts, good-switches, good-off, good-first, good-first-dead, good-last, good-last-dead, good-invalidate, good-response}
+use Rattle.pages.specs.Pages.{switchedOn, switchedOff}
+use Rattle.card.specs.Cases.{Cases, cases}
 
 -- ---- one call
 
 module _ (me : Noted) (f : Function) (o : Ok me f) where
-  -- a reset that is not accepted is refused
-  refused-reset : (a : Resetting) (c : Call) (out : List ℕ) → isRefused (ended f out (resetting a) .says) ≡ true → Does (Good me f c) (resetting a)
-  unfolding resetting
-  refused-reset a c out r =
-      does-case _ (leb (a .stu) 31) _ _
-      (λ e. does-case _ (isRcb (a .rcb)) _ _ (λ g. no-tf (sym (rw (e, g) at r))) (λ g. does-number _ 12))
-      (λ e. does-number _ 12)
+  module _ (bytes out : List ℕ) (are : areBytes bytes ≡ true) where
+    -- a call that is not an accepted reset keeps what holds, and does what is seen of it
+    abbrev Keeps : Command → Said Deed → Type 0
+    Keeps x s = (ty : isTyped x ≡ true) → (not (isRefused (ended f out s .says)) && isReset x) ≡ false → Does (Good me f (record { command = x; bytes = bytes; out = out; typed = ty; octets = are })) s
+
+    each : Cases f bytes out Keeps
+    each =
+        record {
+          refused = λ x n l ty u. does-number _ n;
+          refusedKind = λ p r n l ty u. does-number _ n;
+          reset = λ a s b ty u. no-tf u;
+          enabled = λ ty u. good-plain me f _ _ _ o (quiet (view f));
+          enable = λ ty u. good-enable me f o bytes out are ty;
+          disable = λ ty u. good-plain me f _ _ _ (same-ok me f o false (f .pages)) (quiet (view f));
+          pagesOn = λ n g ty u. good-plain me f _ _ _ (same-ok me f o (f .enabled) (switchedOn n)) (quiet (view f));
+          pagesOff = λ ty u. good-plain me f _ _ _ (same-ok me f o (f .enabled) switchedOff) (quiet (view f));
+          pagesNotOn = λ ty u. good-plain me f _ _ _ o (quiet (view f));
+          ask = λ a t few e ty u. good-ask me f o a bytes out ty are t few e;
+          read = λ a at t w l e ty u. good-read me f o a bytes out ty are at t w l e;
+          write = λ a at w l ty u. good-write me f o a bytes out ty are at w l;
+          drainsNone = λ z ty u. good-idle me f o bytes out ty are z;
+          drains = λ ty u. good-drain me f o bytes out ty are;
+          page = λ q e s ty u. good-page me f o q bytes out ty are;
+          readEnds = λ x r n a h d c z ty u. good-ends me f o bytes out ty are x a r h n d c z;
+          readGoesOn = λ x r n a h d c l z ty u. good-goes-on me f o bytes out ty are x a r h n d c l z;
+          readFails = λ x r s a h d z ty u. good-fails me f o bytes out ty are x a r h s d z;
+          aborts = λ x q s a h d z ty u. good-aborts me f o bytes out ty are x a q h s d z;
+          switchesOff = λ x q s a h d z ty u. good-switches me f o bytes out ty are x a q h s d z;
+          offBoundary = λ x q n a h d j ty u. good-off me f o bytes out ty are x a q h n d j;
+          firstDiscarded = λ x q n a h d j ty u. good-first-dead me f o bytes out ty are x a q h n d j;
+          lastDiscarded = λ x q n a h d j ty u. good-last-dead me f o bytes out ty are x a q h n d j;
+          firstFills = λ x q n a h d j l ty u. good-first me f o bytes out ty are x a q h n d j l;
+          lastFills = λ x q n a h d j l ty u. good-last me f o bytes out ty are x a q h n d j l;
+          invalidates = λ i a e w ty u. good-invalidate me f o bytes out ty are i a e w;
+          answersGroup = λ s a ty u. good-response me f o bytes out ty are s a _;
+          stopsPages = λ s a ty u. good-response me f o bytes out ty are s a _;
+        }
 
   good : (x : Command) (bytes out : List ℕ) (ty : isTyped x ≡ true) (are : areBytes bytes ≡ true) → (not (isRefused (step f x bytes out .says)) && isReset x) ≡ false
       → Does (Good me f (record { command = x; bytes = bytes; out = out; typed = ty; octets = are })) (calling f x bytes out)
-  unfolding calling
-  good (Reset a) bytes out ty are u = refused-reset a _ out (was (isRefused (ended f out (resetting a) .says)) u)
-    where
-      was : (b : Bool) → (not b && true) ≡ false → b ≡ true
-      was true e = refl
-      was false e = no-tf e
-  good Enable bytes out ty are u = good-enable me f o bytes out are ty
-  good Disable bytes out ty are u = good-disable me f o bytes out are ty
-  good (Asks a) bytes out ty are u = good-ask me f o a bytes out ty are
-  good (Accesses a) bytes out ty are u = good-access me f o a bytes out ty are
-  good Receive bytes out ty are u = good-receive me f o bytes out ty are
-  good Drain bytes out ty are u = good-drain me f o bytes out ty are
-  good (PagesOn n) bytes out ty are u = good-on me f o bytes out are n ty (f .pages .interface)
-  good PagesOff bytes out ty are u = good-off me f o bytes out are ty (f .pages .interface)
-  good (PageRequest q) bytes out ty are u = good-page me f o q bytes out ty are (f .pages .interface)
+  good x bytes out ty are u = cases f bytes out _ (each bytes out are) x ty u
 
   -- what a call leaves, and what is seen of it; a refused one leaves all as it was, and shows nothing
   pub record Done (c : Call) (r : Result) : Type 0 where

@@ -12,16 +12,13 @@ use borrow.Author.Tests.{eqb-true, eqb-false, leb-true, le-leb, lt-leb, eq-eqb, 
 use Rattle.lemmas.specs.Cases.{and-both, never-both}
 use Rattle.packet.specs.declared.ITag.{ITag}
 use Rattle.packet.specs.declared.Tag.{Tag}
-use Rattle.packet.specs.declared.Outcome.{Outcome}
 use Rattle.packet.specs.declared.Outcome.the-variants.{Data, Status}
 use Rattle.packet.specs.declared.Completion.{Completion}
 use Rattle.packet.specs.declared.InvalidateRequest.{InvalidateRequest}
 use Rattle.packet.specs.declared.PrgResponse.{PrgResponse}
 use Rattle.packet.specs.declared.Body.{Body}
-use Rattle.packet.specs.declared.Body.the-variants.{Tr as Translates, Mem, Cpl, Inv, Ic, Prq, Prs}
-use Rattle.packet.specs.declared.Packet.{Packet}
-use Rattle.packet.specs.Numbers.{Said, gives, number}
-use Rattle.packet.specs.Reading.{reading, payloadIn}
+use Rattle.packet.specs.declared.Body.the-variants.{Cpl, Inv, Prs}
+use Rattle.packet.specs.Reading.{payloadIn}
 use Rattle.tlp.specs.Frames.{Bytes}
 use Rattle.tlp.specs.Laws.{read-typed, completion-payload}
 use Rattle.atc.specs.declared.Entry.{Entry}
@@ -34,23 +31,16 @@ use Rattle.tags.specs.declared.Fetch.{Fetch}
 use Rattle.tags.specs.Itags.{isIn}
 use Rattle.tags.specs.Tags.{heldAt, isTag, rangeOf, noteOf}
 use Rattle.tags.specs.Laws.{in-none, held-tag, range-run}
-use Rattle.pages.specs.declared.Interface.{Interface}
-use Rattle.pages.specs.declared.Interface.the-variants.{Off as IsOff, On, Stopped}
-use Rattle.pages.specs.Pages.{isWaiting}
-use Rattle.replies.specs.declared.Part.{Part}
-use Rattle.replies.specs.declared.Part.the-variants.{Misfit, Off, First, Last}
-use Rattle.replies.specs.Fits.{judged, fits}
+use Rattle.replies.specs.declared.Part.the-variants.{Off, First, Last}
+use Rattle.replies.specs.Fits.{fits}
 use Rattle.replies.specs.Fills.{applied, afterFirst}
 use Rattle.replies.specs.Laws.{applied-sound, applied-entry}
 use Rattle.state.specs.declared.Function.{Function}
 use Rattle.state.specs.Answers.{Word, plainly}
-use Rattle.state.specs.Laws.{Does, does-number, does-case}
-use Rattle.completions.specs.Reads.{stillDue, fetched, unfetched}
-use Rattle.completions.specs.Translations.{untranslated, isLive, settled, translatedAs, translated}
-use Rattle.completions.specs.Completions.{completedFor, completed}
-use Rattle.snoops.specs.Invalidate.{snoopRange, isOther, invalidated}
-use Rattle.receives.specs.Responses.{respondedOn, responded}
-use Rattle.receives.specs.Receive.{taken, takenIf, received}
+use Rattle.state.specs.Laws.{Does}
+use Rattle.completions.specs.Reads.{stillDue}
+use Rattle.completions.specs.Translations.{isLive}
+use Rattle.snoops.specs.Invalidate.{snoopRange, isOther}
 use Rattle.card.specs.declared.Command.the-variants.{Receive}
 use Rattle.lemmas.specs.Bools.{no-tf, no-some}
 use Rattle.demand.specs.Demand.{CPL, leaves, isOpen}
@@ -64,28 +54,32 @@ use Rattle.keeps.specs.Snoops.{held-entry, gone-ok, gone-step}
 use Rattle.tlp.specs.Words.{octets, dropped-bytes}
 use Rattle.replies.specs.Parts.{last-whole, off-whole, first-begins, first-fits, last-fits}
 use Rattle.keeps.specs.Completions.{brought-replied, brought-to, left-step}
+use Rattle.state.specs.State.{withPlace, withCache, withEnable, withPages}
+use Rattle.state.specs.Answers.{payloadLast, payloadMore, readFailed, aborted, switchedOff, discarded, more, filled, done}
+use Rattle.snoops.specs.Invalidate.{snoopedBy}
+use Rattle.pages.specs.declared.Pages.{Pages}
+use Rattle.card.specs.Cases.{Arrives, Completes, partOf}
 
-module _ (me : Noted) (f : Function) (o : Ok me f) (bytes out : List ℕ) (ty : isTyped Receive ≡ true) (are : areBytes bytes ≡ true) (p : Packet) (e : reading bytes ≡ gives p) where
+module _ (me : Noted) (f : Function) (o : Ok me f) (bytes out : List ℕ) (ty : isTyped Receive ≡ true) (are : areBytes bytes ≡ true) where
   abbrev receive-call : Call
   receive-call = record { command = Receive; bytes = bytes; out = out; typed = ty; octets = are }
 
   abbrev load : List ℕ
   load = payloadIn bytes
 
-  abbrev from : ℕ
-  from = p .head .sender
-
-  module _ (b : Body) (is : p .body ≡ b) where
-    plain : (g : Function) (w : Word) → Ok me g → Step 32 (view f) (view g) (record { took = bodyTaken me load from b; sent = none }) → Does (Good me f receive-call) (plainly g w)
-    plain g w k s = good-plain me f receive-call g w k (rw (e, is) s)
+  plain : (b : Body) (to : ℕ) (a : Arrives f bytes b to) (g : Function) (w : Word) → Ok me g → Step 32 (view f) (view g) (record { took = bodyTaken me load (a .packet .head .sender) b; sent = none }) → Does (Good me f receive-call) (plainly g w)
+  plain b to a g w k s = good-plain me f receive-call g w k (rw (a .reads, a .is) s)
 
   -- ---- completions
-  module _ (c : Completion) (is : p .body ≡ Cpl c) (mine : eqb (c .requester) (me .id) ≡ true) where
+  module _ (c : Completion) (a : Completes f bytes c) where
     abbrev t : Tag
     t = c .tag
 
+    mine : eqb (c .requester) (me .id) ≡ true
+    mine = rw (o .own) at (a .ours)
+
     all-bytes : Bytes load
-    all-bytes = rw (completion-payload bytes p (octets bytes are) e c is) (dropped-bytes 12 bytes (octets bytes are))
+    all-bytes = rw (completion-payload bytes (a .packet) (octets bytes are) (a .reads) c (a .is)) (dropped-bytes 12 bytes (octets bytes are))
 
     module _ (b : Open) (holds : heldAt (f .places) t ≡ b) (used : (heldAt (f .places) t ≡ Free → ⊥)) where
       own : isTag t ≡ true
@@ -96,7 +90,7 @@ module _ (me : Noted) (f : Function) (o : Ok me f) (bytes out : List ℕ) (ty : 
           → ((q : Tr) → after ≡ Ask q → (q .stu ≡ f .stu) × (q .due ≡ 0 → q .whole ≡ 0)) → ((i : ITag) → isIn (noteOf after) i ≡ (isOpen (leaves {T = terms} d (pendingOf b)) && isIn (noteOf b) i))
           → Does (Good me f receive-call) (plainly (left f t enabled (f .cache) after) w)
       same-cache d given enabled after w opened lived begins notes =
-          plain (Cpl c) is _ w
+          plain (Cpl c) (c .requester) a _ w
           (left-ok me f o t own after enabled (f .cache) (o .cache) (o .reached) begins (λ i h. o .noted t i (ap (λ (x : Open). isIn (noteOf x) i) holds ∙ and-both (isOpen (leaves {T = terms} d (pendingOf b))) _ (sym (notes i) ∙ h) .1)))
           (rw (mine, given) (left-step me f o t own b holds enabled (f .cache) after d opened lived notes (λ j x h. inl h)))
 
@@ -111,21 +105,20 @@ module _ (me : Noted) (f : Function) (o : Ok me f) (bytes out : List ℕ) (ty : 
       is-used : heldAt (f .places) t ≡ Free → ⊥
       is-used h = let z : Read r ≡ Free = sym holds ∙ h in let z : _≡_ {A = ℕ} 0 1 = cc in omega arith
 
-      for-read : (x : Outcome) → c .outcome ≡ x → Does (Good me f receive-call) (completedFor f c load x (Read r))
-      unfolding fetched unfetched
-      for-read (Status status) x =
-          does-case _ (eqb status 0) _ _ (λ z. does-number _ 8) (λ z. frees (Read r) holds is-used none (rw (x, z) refl) (f .enabled) _ refl)
-      for-read (Data words) x =
-          does-case _ (eqb (c .count) (r .due)) _ _
-          (λ a. does-case _ (leb (length load) (r .due)) _ _
-          (λ l. does-case _ (eqb (length load) (r .due)) _ _
-          (λ z. let all = eqb-true (length load) (r .due) z in
-          frees (Read r) holds is-used (some (record { count = c .count; load = load })) (rw x refl) (f .enabled) _ (rw (a, le-leb (r .due) (length load) (omega (arith, all)))))
-          (λ z. let less : leb (r .due) (length load) ≡ false = lt-leb (r .due) (length load) (below (leb-true (length load) (r .due) l) (eqb-false (length load) (r .due) z)) in
+      pub good-fails : (status : ℕ) → c .outcome ≡ Status status → eqb status 0 ≡ false → Does (Good me f receive-call) (plainly (withPlace f t Free) readFailed)
+      good-fails status x z = frees (Read r) holds is-used none (rw (x, z) refl) (f .enabled) _ refl
+
+      pub good-ends : (words : ℕ) → c .outcome ≡ Data words → eqb (c .count) (r .due) ≡ true → eqb (length load) (r .due) ≡ true → Does (Good me f receive-call) (plainly (withPlace f t Free) payloadLast)
+      good-ends words x n z =
+          let all = eqb-true (length load) (r .due) z in
+          frees (Read r) holds is-used (some (record { count = c .count; load = load })) (rw x refl) (f .enabled) _ (rw (n, le-leb (r .due) (length load) (omega (arith, all))))
+
+      pub good-goes-on : (words : ℕ) → c .outcome ≡ Data words → eqb (c .count) (r .due) ≡ true → leb (length load) (r .due) ≡ true → eqb (length load) (r .due) ≡ false
+          → Does (Good me f receive-call) (plainly (withPlace f t (Read (stillDue r (r .due - length load)))) payloadMore)
+      good-goes-on words x n l z =
+          let less : leb (r .due) (length load) ≡ false = lt-leb (r .due) (length load) (below (leb-true (length load) (r .due) l) (eqb-false (length load) (r .due) z)) in
           same-cache (Read r) holds is-used (some (record { count = c .count; load = load })) (rw x refl) (f .enabled) (Read (stillDue r (r .due - length load))) _
-          (rw (a, less)) (λ h. no-tf (sym h)) (λ q h. let z : _≡_ {A = ℕ} 0 1 = cc in absurd (omega arith)) (λ i. rw (a, less))))
-          (λ l. does-number _ 8))
-          (λ a. does-number _ 8)
+          (rw (n, less)) (λ h. no-tf (sym h)) (λ q h. let z : _≡_ {A = ℕ} 0 1 = cc in absurd (omega arith)) (λ i. rw (n, less))
         where
           below : {a b : ℕ} → a ≤ b → (a ≡ b → ⊥) → a < b
           below {a} {b} h n = omega (arith, h, n)
@@ -149,7 +142,7 @@ module _ (me : Noted) (f : Function) (o : Ok me f) (bytes out : List ℕ) (ty : 
           → (liveOf after ≡ true → liveOf (Ask q) ≡ true) → ((q : Tr) → after ≡ Ask q → (q .stu ≡ f .stu) × (q .due ≡ 0 → q .whole ≡ 0)) → ((i : ITag) → isIn (noteOf after) i ≡ false)
           → Does (Good me f receive-call) (plainly (left f t (f .enabled) filled-cache after) w)
       fills-cache given live fit after w opened lived begins notes =
-          plain (Cpl c) is _ w
+          plain (Cpl c) (c .requester) a _ w
           (left-ok me f o t (own (Ask q) holds asks-used) after (f .enabled) filled-cache (applied-sound q load (f .cache) (o .cache)) filled-reached begins (λ i h. absurd (never-both _ h (notes i))))
           (rw (mine, given) (left-step me f o t (own (Ask q) holds asks-used) (Ask q) holds (f .enabled) filled-cache after (some reply) opened lived (λ i. notes i ∙ sym (ap (λ (b : Bool). isOpen (leaves {T = terms} (some reply) (pendingOf (Ask q))) && b) (in-none i) ∙ and-false (isOpen (leaves {T = terms} (some reply) (pendingOf (Ask q)))))) entries))
         where
@@ -163,78 +156,69 @@ module _ (me : Noted) (f : Function) (o : Ok me f) (bytes out : List ℕ) (ty : 
               (λ b. inr (rw (holds, and-both (f .enabled) _ live .1, ← held-entry (f .stu) (entryAt filled-cache j) y h .1) (ap (λ (s : ℕ). isReplied (askedBy q) (q .whole - q .due) reply (record { stu = s; entry = entryAt filled-cache j })) (sym (o .begun t q holds .0)) ∙ brought-replied q load fit (entryAt filled-cache j) b (c .count)))))
               (applied-entry q load (f .cache) (o .cache) j)
 
+      -- no data
+      pub good-aborts : (status : ℕ) → c .outcome ≡ Status status → eqb status 0 ≡ false → Does (Good me f receive-call) (plainly (withPlace f t Free) aborted)
+      good-aborts status x z = frees (Ask q) holds asks-used none (rw (x, z) refl) (f .enabled) _ refl
+
+      pub good-switches : (status : ℕ) → c .outcome ≡ Status status → eqb status 0 ≡ false → Does (Good me f receive-call) (plainly (withEnable (withPlace f t Free) false) switchedOff)
+      good-switches status x z = frees (Ask q) holds asks-used none (rw (x, z) refl) false _ refl
+
       -- a first packet of two leaves the rest due; the last, and the only one, leave nothing
-      for-part : outcomeTaken (t .0) (c .count) load (c .outcome) ≡ some (CPL (t .0) (some reply)) → (x : Part) → judged q (f .rcb) (c .count) (c .lower) load ≡ x → Does (Good me f receive-call) (translatedAs f t q (c .count) load x)
-      unfolding settled
-      for-part given Misfit j = does-number _ 8
-      for-part given Off j = frees (Ask q) holds asks-used (some reply) given (f .enabled) _ (rw (eq-eqb (c .count) (length load) (off-whole q (f .rcb) (c .count) (c .lower) load j)))
-      for-part given Last j =
-          let whole = eq-eqb (c .count) (length load) (last-whole q (f .rcb) (c .count) (c .lower) load j) in
-          does-case _ (isLive f q) _ _
-          (λ live. fills-cache given live (last-fits q (f .rcb) (c .count) (c .lower) load j) Free _ (rw whole) (λ l. no-tf (sym l)) (λ p h. let z : _≡_ {A = ℕ} 0 1 = cc in absurd (omega arith)) in-none)
-          (λ dead. frees (Ask q) holds asks-used (some reply) given (f .enabled) _ (rw whole))
-      for-part given First j =
-          let b = first-begins q (f .rcb) (c .count) (c .lower) load j in
-          let half : eqb (c .count) (length load) ≡ false = ne-eqb (c .count) (length load) (b .1 .1) in
-          let none-before : q .whole ≡ 0 = o .begun t q holds .1 (b .0) in
-          let so-far : c .count - (c .count - length load) ≡ q .whole - q .due + length load = omega (arith, b .1 .0, none-before) in
-          let same-range : rangeOf (afterFirst q (c .count) load) ≡ rangeOf q = range-run (afterFirst q (c .count) load) ∙ sym (range-run q) in
-          let begins : (p : Tr) → Ask (afterFirst q (c .count) load) ≡ Ask p → (p .stu ≡ f .stu) × (p .due ≡ 0 → p .whole ≡ 0) = λ p h. (let unit : q .stu ≡ p .stu = cc in sym unit ∙ o .begun t q holds .0, λ d. let same : c .count - length load ≡ p .due = cc in absurd (b .1 .1 (omega (arith, b .1 .0, same, d)))) in
-          does-case _ (isLive f q) _ _
-          (λ live. fills-cache given live (first-fits q (f .rcb) (c .count) (c .lower) load j) (Ask (afterFirst q (c .count) load)) _ (rw (half, so-far, same-range)) (λ l. l) begins in-none)
-          (λ dead. same-cache (Ask q) holds asks-used (some reply) given (f .enabled) (Ask (afterFirst q (c .count) load)) _ (rw (half, so-far, same-range)) (λ l. l) begins (λ i. rw (half, in-none i)))
+      module _ (words : ℕ) (x : c .outcome ≡ Data words) where
+        given : outcomeTaken (t .0) (c .count) load (c .outcome) ≡ some (CPL (t .0) (some reply))
+        given = rw x refl
 
-      for-ask : (x : Outcome) → c .outcome ≡ x → Does (Good me f receive-call) (completedFor f c load x (Ask q))
-      unfolding translated untranslated
-      for-ask (Data words) x = for-part (rw x refl) (judged q (f .rcb) (c .count) (c .lower) load) refl
-      for-ask (Status status) x =
-          does-case _ (eqb status 0) _ _ (λ z. does-number _ 8)
-          (λ z. does-case _ (eqb status 4) _ _
-          (λ y. frees (Ask q) holds asks-used none (rw (x, z) refl) (f .enabled) _ refl)
-          (λ y. frees (Ask q) holds asks-used none (rw (x, z) refl) false _ refl))
+        pub good-off : partOf f bytes c q ≡ Off → Does (Good me f receive-call) (plainly (withPlace f t Free) discarded)
+        good-off j = frees (Ask q) holds asks-used (some reply) given (f .enabled) _ (rw (eq-eqb (c .count) (length load) (off-whole q (f .rcb) (c .count) (c .lower) load j)))
 
-    completes : Does (Good me f receive-call) (completed f c load)
-    unfolding completed
-    completes = go (heldAt (f .places) t) refl
-      where
-        go : (b : Open) → heldAt (f .places) t ≡ b → Does (Good me f receive-call) (completedFor f c load (c .outcome) b)
-        go Free h = does-number _ 7
-        go (Ask q) h = for-ask q h (c .outcome) refl
-        go (Read r) h = for-read r h (c .outcome) refl
+        module _ (j : partOf f bytes c q ≡ Last) where
+          whole : eqb (c .count) (length load) ≡ true
+          whole = eq-eqb (c .count) (length load) (last-whole q (f .rcb) (c .count) (c .lower) load j)
+
+          pub good-last : isLive f q ≡ true → Does (Good me f receive-call) (plainly (withPlace (withCache f filled-cache) t Free) filled)
+          good-last live = fills-cache given live (last-fits q (f .rcb) (c .count) (c .lower) load j) Free _ (rw whole) (λ l. no-tf (sym l)) (λ p h. let z : _≡_ {A = ℕ} 0 1 = cc in absurd (omega arith)) in-none
+
+          pub good-last-dead : Does (Good me f receive-call) (plainly (withPlace f t Free) discarded)
+          good-last-dead = frees (Ask q) holds asks-used (some reply) given (f .enabled) _ (rw whole)
+
+        module _ (j : partOf f bytes c q ≡ First) where
+          abbrev rest : Tr
+          rest = afterFirst q (c .count) load
+
+          half : eqb (c .count) (length load) ≡ false
+          half = ne-eqb (c .count) (length load) (first-begins q (f .rcb) (c .count) (c .lower) load j .1 .1)
+
+          so-far : c .count - (c .count - length load) ≡ q .whole - q .due + length load
+          so-far =
+              let b = first-begins q (f .rcb) (c .count) (c .lower) load j in
+              let none-before : q .whole ≡ 0 = o .begun t q holds .1 (b .0) in
+              omega (arith, b .1 .0, none-before)
+
+          same-range : rangeOf rest ≡ rangeOf q
+          same-range = range-run rest ∙ sym (range-run q)
+
+          begins : (p : Tr) → Ask rest ≡ Ask p → (p .stu ≡ f .stu) × (p .due ≡ 0 → p .whole ≡ 0)
+          begins p h =
+              let b = first-begins q (f .rcb) (c .count) (c .lower) load j in (
+                let unit : q .stu ≡ p .stu = cc in sym unit ∙ o .begun t q holds .0,
+                λ d. let same : c .count - length load ≡ p .due = cc in absurd (b .1 .1 (omega (arith, b .1 .0, same, d))),
+              )
+
+          pub good-first : isLive f q ≡ true → Does (Good me f receive-call) (plainly (withPlace (withCache f filled-cache) t (Ask rest)) more)
+          good-first live = fills-cache given live (first-fits q (f .rcb) (c .count) (c .lower) load j) (Ask rest) _ (rw (half, so-far, same-range)) (λ l. l) begins in-none
+
+          pub good-first-dead : Does (Good me f receive-call) (plainly (withPlace f t (Ask rest)) discarded)
+          good-first-dead = same-cache (Ask q) holds asks-used (some reply) given (f .enabled) (Ask rest) _ (rw (half, so-far, same-range)) (λ l. l) begins (λ i. rw (half, in-none i))
 
   -- ---- Invalidate Requests
-  invalidates : (i : InvalidateRequest) → p .body ≡ Inv i → Does (Good me f receive-call) (invalidated f from i)
-  unfolding invalidated snoopRange
-  invalidates i is =
-      does-case _ (isOther (f .agent) from) _ _ (λ n. does-number _ 10)
-      (λ ours. does-case _ (isIn (f .waiting) (i .itag)) _ _ (λ n. does-number _ 9)
-      (λ idle. let short = read-typed bytes p (octets bytes are) e .sender in
-      plain (Inv i) is _ _ (gone-ok me f o from i short ours idle) (rw (← o .unit) (gone-step me f o from i short ours idle))))
+  pub good-invalidate : (i : InvalidateRequest) (a : Arrives f bytes (Inv i) (i .device)) → isOther (f .agent) (a .packet .head .sender) ≡ false → isIn (f .waiting) (i .itag) ≡ false
+      → Does (Good me f receive-call) (plainly (snoopedBy f (a .packet .head .sender) i) done)
+  unfolding snoopRange
+  good-invalidate i a ours idle =
+      let from = a .packet .head .sender in
+      let short = read-typed bytes (a .packet) (octets bytes are) (a .reads) .sender in
+      plain (Inv i) (i .device) a _ _ (gone-ok me f o from i short ours idle) (rw (← o .unit) (gone-step me f o from i short ours idle))
 
   -- ---- PRG Responses
-  responds : (s : PrgResponse) → p .body ≡ Prs s → (i : Interface) → Does (Good me f receive-call) (responded f (s .code) (s .index) i)
-  unfolding respondedOn
-  responds s is IsOff = does-number _ 7
-  responds s is Stopped = does-number _ 7
-  responds s is On =
-      does-case _ (leb (s .code) 1) _ _
-      (λ a. does-case _ (isWaiting (f .pages .groups) (s .index)) _ _ (λ w. plain (Prs s) is _ _ (same-ok me f o (f .enabled) _) (quiet (view f))) (λ w. does-number _ 7))
-      (λ a. plain (Prs s) is _ _ (same-ok me f o (f .enabled) _) (quiet (view f)))
-
-  takes : (b : Body) → p .body ≡ b → Does (Good me f receive-call) (taken f from load b)
-  unfolding taken
-  takes (Translates x) is = does-number _ 2
-  takes (Mem x) is = does-number _ 2
-  takes (Cpl c) is = does-case _ (eqb (c .requester) (f .id)) _ _ (λ a. completes c is (rw (o .own) at a)) (λ a. does-number _ 5)
-  takes (Inv i) is = does-case _ (eqb (i .device) (f .id)) _ _ (λ a. invalidates i is) (λ a. does-number _ 5)
-  takes (Ic x) is = does-number _ 2
-  takes (Prq x) is = does-number _ 2
-  takes (Prs s) is = does-case _ (eqb (s .device) (f .id)) _ _ (λ a. responds s is (f .pages .interface)) (λ a. does-number _ 5)
-
-pub good-receive : (me : Noted) (f : Function) → Ok me f → (bytes out : List ℕ) (ty : isTyped Receive ≡ true) (are : areBytes bytes ≡ true) → Does (Good me f (record { command = Receive; bytes = bytes; out = out; typed = ty; octets = are })) (received f bytes)
-unfolding received
-good-receive me f o bytes out ty are = go (reading bytes) refl
-  where
-    go : (s : Said Packet) → reading bytes ≡ s → Does (Good me f (record { command = Receive; bytes = bytes; out = out; typed = ty; octets = are })) (takenIf f (payloadIn bytes) s)
-    go (gives p) e = takes me f o bytes out ty are p e (p .body) refl
-    go (number n) e = does-number _ n
+  pub good-response : (s : PrgResponse) (a : Arrives f bytes (Prs s) (s .device)) (pages : Pages) → Does (Good me f receive-call) (plainly (withPages f pages) done)
+  good-response s a pages = plain (Prs s) (s .device) a _ _ (same-ok me f o (f .enabled) pages) (quiet (view f))

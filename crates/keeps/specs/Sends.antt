@@ -17,7 +17,7 @@ use Rattle.packet.specs.declared.ITag.{ITag}
 use Rattle.packet.specs.declared.Tag.{Tag}
 use Rattle.packet.specs.declared.Access.the-variants.{Read as Fetches, Write}
 use Rattle.packet.specs.declared.PageRequest.{PageRequest}
-use Rattle.packet.specs.Numbers.{Said, gives, number}
+use Rattle.packet.specs.Numbers.{gives, number}
 use Rattle.packet.specs.Laws.{demanded}
 use Rattle.packet.specs.Forms.{dwordsOf}
 use Rattle.tlp.specs.Fields.{typed-request, typed-access, typed-page}
@@ -29,28 +29,23 @@ use Rattle.tags.specs.declared.Open.{Open}
 use Rattle.tags.specs.declared.Open.the-variants.{Free, Ask, Read}
 use Rattle.tags.specs.declared.Tr.{Tr}
 use Rattle.tags.specs.Itags.{isIn}
-use Rattle.tags.specs.declared.FreeTag.{FreeTag}
-use Rattle.tags.specs.declared.FreeTag.the-variants.{Lowest, NoneFree}
+use Rattle.tags.specs.declared.FreeTag.the-variants.{Lowest}
 use Rattle.tags.specs.Tags.{asked, fetching, freeTag, heldAt, isTag, noteOf, staled}
 use Rattle.tags.specs.Laws.{in-none, staled-long, staled-held, free-tag, range-run}
 use Rattle.pages.specs.declared.Pages.{Pages}
-use Rattle.pages.specs.Pages.{switchedOn, isWaiting, isSpent}
-use Rattle.pages.specs.declared.Interface.{Interface}
-use Rattle.pages.specs.declared.Interface.the-variants.{Off, On, Stopped}
 use Rattle.state.specs.declared.Function.{Function}
 use Rattle.state.specs.State.{withPages, withPlace, withEnable, headOf}
-use Rattle.state.specs.Switches.{enabling, disabling, isGranted, switchingOn, switchingOff}
-use Rattle.state.specs.Laws.{Does, does-number, does-case}
-use Rattle.asks.specs.Ask.{isAskable, requestOf, askOn, asking, few-units}
+use Rattle.state.specs.Laws.{Does}
+use Rattle.asks.specs.Ask.{isAskable, requestOf, few-units}
 use Rattle.accesses.specs.declared.Way.{Way}
 use Rattle.accesses.specs.declared.Way.the-variants.{Read as ToRead, Write as ToWrite}
 use Rattle.accesses.specs.declared.Target.{Target}
-use Rattle.accesses.specs.Access.{memoryOf, unitAt, isAllowed, enteredBy, targetOf, isInPage, readOn, going, goingIf, lookingUp, accessing}
-use Rattle.requests.specs.PageRequests.{pageOf, isAsked, requested, requestingOn, requesting}
+use Rattle.accesses.specs.Access.{memoryOf, unitAt, isAllowed, enteredBy, targetOf, isInPage, lookingUp}
+use Rattle.requests.specs.PageRequests.{pageOf, requested}
 use Rattle.asks.specs.declared.Asking.{Asking}
 use Rattle.accesses.specs.declared.Accessing.{Accessing}
 use Rattle.card.specs.declared.Command.{Command}
-use Rattle.card.specs.declared.Command.the-variants.{Enable, Disable, Ask as Asks, Access as Accesses, PagesOn, PagesOff, PageRequest as PageRequests}
+use Rattle.card.specs.declared.Command.the-variants.{Enable, Ask as Asks, Access as Accesses, PageRequest as PageRequests}
 use Rattle.lemmas.specs.Bools.{no-tf, no-some}
 use Rattle.demand.specs.Demand.{Ticket, Sent, TR, READ, Pending, translation, onSent, uses, reaches, completes}
 use Rattle.demand.specs.Laws.{Step, Through}
@@ -59,6 +54,11 @@ use Rattle.keeps.specs.Demands.{Wanted, terms, isTyped, Call, Noted, add
 use Rattle.keeps.specs.Views.{own-packet, no-entry, tag, pendingOf, liveOf, view, Ok, Good, good-plain, good-send, quiet, writes}
 use Rattle.keeps.specs.Placed.{at-own, at-other, left-ok}
 use Rattle.keeps.specs.Marks.{stale-pending, stale-live, stale-note}
+use Rattle.state.specs.State.{withCache, withPlaces}
+use Rattle.state.specs.Answers.{plainly, sending, done}
+use Rattle.asks.specs.Ask.{askFrom}
+use Rattle.accesses.specs.Access.{readFrom, writeTo}
+use Rattle.tags.specs.Tags.{allStaled}
 
 -- ---- nothing but E and the page interface
 
@@ -84,29 +84,10 @@ module _ (me : Noted) (f : Function) (o : Ok me f) (bytes out : List ℕ) (octet
   abbrev simple : (c : Command) → isTyped c ≡ true → Call
   simple c ty = record { command = c; bytes = bytes; out = out; typed = ty; octets = octets }
 
-  pub good-disable : (ty : isTyped Disable ≡ true) → Does (Good me f (simple Disable ty)) (disabling f)
-  unfolding disabling
-  good-disable ty = good-plain me f (simple Disable ty) _ _ (same-ok me f o false (f .pages)) (quiet (view f))
-
-  pub good-on : (n : ℕ) (ty : isTyped (PagesOn n) ≡ true) (i : Interface) → Does (Good me f (simple (PagesOn n) ty)) (switchingOn f n i)
-  unfolding switchingOn
-  good-on n ty Off = does-case _ (isGranted n) _ _ (λ e. good-plain me f (simple (PagesOn n) ty) _ _ (same-ok me f o (f .enabled) (switchedOn n)) (quiet (view f))) (λ e. does-number _ 12)
-  good-on n ty On = does-number _ 12
-  good-on n ty Stopped = does-number _ 15
-
-  pub good-off : (ty : isTyped PagesOff ≡ true) (i : Interface) → Does (Good me f (simple PagesOff ty)) (switchingOff f i)
-  unfolding switchingOff
-  good-off ty Off = good-plain me f (simple PagesOff ty) _ _ o (quiet (view f))
-  good-off ty On = good-plain me f (simple PagesOff ty) _ _ (same-ok me f o (f .enabled) _) (quiet (view f))
-  good-off ty Stopped = good-plain me f (simple PagesOff ty) _ _ o (quiet (view f))
-
   -- ---- E set
-  pub good-enable : (ty : isTyped Enable ≡ true) → Does (Good me f (simple Enable ty)) (enabling f)
-  unfolding enabling
+  pub good-enable : (ty : isTyped Enable ≡ true) → Does (Good me f (simple Enable ty)) (plainly (withEnable (withCache (withPlaces f (allStaled (f .places))) (emptied (f .cache))) true) done)
   good-enable ty =
-      does-case _ (f .enabled) _ _
-      (λ e. good-plain me f (simple Enable ty) _ _ o (quiet (view f)))
-      (λ e. good-plain me f (simple Enable ty) _ _
+      good-plain me f (simple Enable ty) _ _
       (record {
         unit = o .unit;
         own = o .own;
@@ -134,7 +115,7 @@ module _ (me : Noted) (f : Function) (o : Ok me f) (bytes out : List ℕ) (octet
         notYet = λ i a p. no-some p;
         dropped = λ i a p. no-some p;
         stale = λ i a p. no-some p;
-      }))
+      })
     where
       old : (t : Tag) (q : Tr) (x : Open) → heldAt (f .places) t ≡ x → staled x ≡ Ask q → (q .stu ≡ f .stu) × (q .due ≡ 0 → q .whole ≡ 0)
       old t q Free h e = let z : _≡_ {A = ℕ} 0 1 = cc in absurd (omega arith)
@@ -186,28 +167,18 @@ module _ (me : Noted) (f : Function) (o : Ok me f) (a : Asking) (bytes out : Lis
   asks-units : (units : ℕ) → 1 ≤ units → dwordsOf (2 * units) / 2 - 1 ≡ units - 1
   asks-units units h = rw (ne-eqb (2 * units) 0 (omega arith)) (omega arith)
 
-  pub good-ask : Does (Good me f ask-call) (asking f a out)
-  unfolding asking
-  good-ask =
-      does-case _ (f .enabled) _ _
-      (λ enabled. does-case _ (isAskable (f .rcb) (f .stu) a) _ _
-      (λ few. on few (freeTag (f .places)) refl)
-      (λ e. does-number _ 12))
-      (λ e. does-number _ 6)
-    where
-      on : isAskable (f .rcb) (f .stu) a ≡ true → (x : FreeTag) → freeTag (f .places) ≡ x → Does (Good me f ask-call) (askOn f x a out)
-      on few NoneFree e = does-number _ 11
-      on few (Lowest t) e =
-          let b = asked (a .address) (a .units - 1) (f .stu) in
-          let n = few-units (f .rcb) (f .stu) a few in
-          let free = free-tag (f .places) t (o .tags) e in
-          let own = free .0 in
-          good-send me f ask-call _ _ (requestOf (f .id) t a) []
-          (typed-request (headOf (f .id)) (o .id) _ (omega (arith, ltb-true (t .0) 32 own)) (omega (arith, ltb-true (a .address) (2 ^ 64) ty))) (own-packet me (requestOf (f .id) t a) (o .own) refl refl)
-          (opened-ok me f o t own b (λ q e. (let unit : f .stu ≡ q .stu = cc in sym unit, λ d. let z : 0 ≡ q .whole = cc in sym z)) in-none) (λ i. refl)
-          (rw (asks-units (a .units) (n .0), run-low-bits (a .address) (a .units - 1) (me .stu), ← o .unit)
-          (open-step me f o t own b (free .1) (TR (t .0) (record { stu = f .stu; range = runOf (a .address) (a .units - 1) (f .stu) })) (λ u. refl)
-          (λ u p. ap (λ (r : Range). cond {A = Option (Pending terms)} (eqb u (t .0)) (some (translation (record { stu = f .stu; range = r }) 0)) p) (sym (range-run new-request))) (λ i. refl) in-none (λ w k e. no-some e)))
+  pub good-ask : (t : Tag) → isAskable (f .rcb) (f .stu) a ≡ true → freeTag (f .places) ≡ Lowest t → Does (Good me f ask-call) (askFrom f t a out)
+  good-ask t few e =
+      let b = asked (a .address) (a .units - 1) (f .stu) in
+      let n = few-units (f .rcb) (f .stu) a few in
+      let free = free-tag (f .places) t (o .tags) e in
+      let own = free .0 in
+      good-send me f ask-call _ _ (requestOf (f .id) t a) []
+      (typed-request (headOf (f .id)) (o .id) _ (omega (arith, ltb-true (t .0) 32 own)) (omega (arith, ltb-true (a .address) (2 ^ 64) ty))) (own-packet me (requestOf (f .id) t a) (o .own) refl refl)
+      (opened-ok me f o t own b (λ q e. (let unit : f .stu ≡ q .stu = cc in sym unit, λ d. let z : 0 ≡ q .whole = cc in sym z)) in-none) (λ i. refl)
+      (rw (asks-units (a .units) (n .0), run-low-bits (a .address) (a .units - 1) (me .stu), ← o .unit)
+      (open-step me f o t own b (free .1) (TR (t .0) (record { stu = f .stu; range = runOf (a .address) (a .units - 1) (f .stu) })) (λ u. refl)
+      (λ u p. ap (λ (r : Range). cond {A = Option (Pending terms)} (eqb u (t .0)) (some (translation (record { stu = f .stu; range = r }) 0)) p) (sym (range-run new-request))) (λ i. refl) in-none (λ w k e. no-some e)))
 
 -- ---- access
 
@@ -270,33 +241,24 @@ module _ (me : Noted) (f : Function) (o : Ok me f) (a : Accessing) (bytes out : 
           let two : at .address ≡ k = ap (λ (z : Wanted × ℕ). z .1) both in
           rw (one, two) at (g .by t bytes)
 
-  goes-good : (way : Way) → a .way ≡ way → (at : Target) → Goes f (a .address) (a .words) at → Does (Good me f access-call) (going f way at a bytes out)
-  goes-good ToWrite is at g =
+  pub good-write : (at : Target) → a .way ≡ ToWrite → lookingUp f a (length bytes) ≡ gives at → Does (Good me f access-call) (writeTo f at (a .words) bytes out)
+  good-write at is up =
+      let g = goes at up in
       good-send me f access-call _ _ (memoryOf (f .id) Write (a .words) at) bytes (typed-access (headOf (f .id)) (o .id) _ tt (g .inside)) (own-packet me (memoryOf (f .id) Write (a .words) at) (o .own) refl refl) o (λ i. refl)
       (writes (view f) (at .translated) _ (at .address) (served ToWrite is at g _))
-  goes-good ToRead is at g =
-      on (freeTag (f .places)) refl
-    where
-      on : (x : FreeTag) → freeTag (f .places) ≡ x → Does (Good me f access-call) (readOn f x at a bytes out)
-      on NoneFree e = does-number _ 11
-      on (Lowest t) e =
-          let free = free-tag (f .places) t (o .tags) e in
-          let own = free .0 in
-          let b = fetching (a .address) (4 * a .words) (at .translated) in
-          good-send me f access-call _ _ (memoryOf (f .id) (Fetches t) (a .words) at) bytes
-          (typed-access (headOf (f .id)) (o .id) _ (omega (arith, ltb-true (t .0) 32 own)) (g .inside)) (own-packet me (memoryOf (f .id) (Fetches t) (a .words) at) (o .own) refl refl)
-          (opened-ok me f o t own b (λ q e. let z : _≡_ {A = ℕ} 0 1 = cc in absurd (omega arith)) in-none) (λ i. refl)
-          (rw (is, ne-eqb (a .words) 0 (omega (arith, g .least)))
-          (open-step me f o t own b (free .1) (READ (t .0) (at .translated) (record { address = some (a .address); bytes = 4 * a .words }) (at .address)) (λ u. refl) (λ u p. refl) (λ i. refl) in-none
-          (λ w k e. served ToRead is at g (4 * a .words) w k (rw is e))))
 
-  pub good-access : Does (Good me f access-call) (accessing f a bytes out)
-  unfolding accessing
-  good-access = go (lookingUp f a (length bytes)) refl
-    where
-      go : (s : Said Target) → lookingUp f a (length bytes) ≡ s → Does (Good me f access-call) (goingIf f a bytes out s)
-      go (gives at) e = goes-good (a .way) refl at (goes at e)
-      go (number n) e = does-number _ n
+  pub good-read : (at : Target) (t : Tag) → a .way ≡ ToRead → lookingUp f a (length bytes) ≡ gives at → freeTag (f .places) ≡ Lowest t → Does (Good me f access-call) (readFrom f t at a bytes out)
+  good-read at t is up e =
+      let g = goes at up in
+      let free = free-tag (f .places) t (o .tags) e in
+      let own = free .0 in
+      let b = fetching (a .address) (4 * a .words) (at .translated) in
+      good-send me f access-call _ _ (memoryOf (f .id) (Fetches t) (a .words) at) bytes
+      (typed-access (headOf (f .id)) (o .id) _ (omega (arith, ltb-true (t .0) 32 own)) (g .inside)) (own-packet me (memoryOf (f .id) (Fetches t) (a .words) at) (o .own) refl refl)
+      (opened-ok me f o t own b (λ q e. let z : _≡_ {A = ℕ} 0 1 = cc in absurd (omega arith)) in-none) (λ i. refl)
+      (rw (is, ne-eqb (a .words) 0 (omega (arith, g .least)))
+      (open-step me f o t own b (free .1) (READ (t .0) (at .translated) (record { address = some (a .address); bytes = 4 * a .words }) (at .address)) (λ u. refl) (λ u p. refl) (λ i. refl) in-none
+      (λ w k e. served ToRead is at g (4 * a .words) w k (rw is e))))
 
 -- ---- page requests
 
@@ -304,13 +266,6 @@ module _ (me : Noted) (f : Function) (o : Ok me f) (q : PageRequest) (bytes out 
   abbrev page-call : Call
   page-call = record { command = PageRequests q; bytes = bytes; out = out; typed = ty; octets = octets }
 
-  pub good-page : (i : Interface) → Does (Good me f page-call) (requesting f q out i)
-  unfolding requestingOn
-  good-page Off = does-number _ 15
-  good-page Stopped = does-number _ 15
-  good-page On =
-      does-case _ (isAsked q) _ _
-      (λ e. does-case _ (isWaiting (f .pages .groups) (q .index)) _ _ (λ w. does-number _ 16)
-      (λ w. does-case _ (isSpent (f .pages .groups) (f .pages .allocation)) _ _ (λ s. does-number _ 16)
-      (λ s. good-send me f page-call _ _ (pageOf (f .id) q) [] (typed-page (headOf (f .id)) (o .id) q (ltb-true (q .page) (2 ^ 64) ty)) (own-packet me (pageOf (f .id) q) (o .own) refl refl) (same-ok me f o (f .enabled) (requested (f .pages) q)) (λ i. refl) (quiet (view f)))))
-      (λ e. does-number _ 12)
+  pub good-page : Does (Good me f page-call) (sending (withPages f (requested (f .pages) q)) done (pageOf (f .id) q) [] out)
+  good-page =
+      good-send me f page-call _ _ (pageOf (f .id) q) [] (typed-page (headOf (f .id)) (o .id) q (ltb-true (q .page) (2 ^ 64) ty)) (own-packet me (pageOf (f .id) q) (o .own) refl refl) (same-ok me f o (f .enabled) (requested (f .pages) q)) (λ i. refl) (quiet (view f))

@@ -1,0 +1,18 @@
+-- The numbers that each call can be refused with. 01, "The seventeen numbers", "Order".
+use mathlib.Core.List.{List, [], _∷_}
+use Prim.Native.Nat.{ℕ}
+use Rattle.card.specs.declared.Command.{Command}
+use Rattle.card.specs.declared.Command.the-variants.{Reset, Enable, Disable, Ask as Asks, Access, Receive, Drain, PagesOn, PagesOff, PageRequest as PageRequests}
+
+-- What is proved of a list is that no other number is given; in which order the tests come is what the call's definition says.
+abbrev pub numbersOf : Command → List ℕ
+numbersOf (Reset a) = 12 ∷ []
+numbersOf Enable = []
+numbersOf Disable = []
+numbersOf (Asks a) = 6 ∷ 12 ∷ 11 ∷ 17 ∷ []
+numbersOf (Access a) = 6 ∷ 12 ∷ 13 ∷ 14 ∷ 11 ∷ 17 ∷ []
+numbersOf Receive = 1 ∷ 2 ∷ 3 ∷ 4 ∷ 5 ∷ 7 ∷ 8 ∷ 10 ∷ 9 ∷ []
+numbersOf Drain = 17 ∷ []
+numbersOf (PagesOn allocation) = 15 ∷ 12 ∷ []
+numbersOf PagesOff = []
+numbersOf (PageRequests q) = 15 ∷ 12 ∷ 16 ∷ 17 ∷ []

@@ -1,0 +1,26 @@
+-- What holds of the tables in every state that calls reach. 01, "The Function's tables".
+use mathlib.Core.Path.{_≡_}
+use mathlib.Core.List.{List}
+use Prim.Native.Nat.{_≤_}
+use lib.ListN.{length}
+use Rattle.atc.specs.declared.Cache.{Cache}
+use Rattle.atc.specs.Cache.{SoundCache}
+use Rattle.tags.specs.declared.Place.{Place}
+use Rattle.pages.specs.declared.Pages.{Pages}
+use Rattle.pages.specs.Pages.{used}
+use Rattle.state.specs.declared.Function.{Function}
+
+-- 32 groups, and no more credits in use than the allocation, which is 512 at most
+pub record SoundPages (p : Pages) : Type 0 where
+  pub groups : length (p .groups) ≡ 32
+  pub granted : p .allocation ≤ 512
+  pub within : used (p .groups) ≤ p .allocation
+
+-- a sound cache, 32 tags and sound pages
+pub record SoundTables (c : Cache) (places : List Place) (p : Pages) : Type 0 where
+  pub cache : SoundCache c
+  pub tags : length places ≡ 32
+  pub pages : SoundPages p
+
+abbrev pub Sound : Function → Type 0
+Sound f = SoundTables (f .cache) (f .places) (f .pages)

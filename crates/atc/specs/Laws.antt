@@ -23,9 +23,7 @@ use Rattle.atc.specs.declared.Found.the-variants.{Hit, Miss}
 use Rattle.atc.specs.Cache.{nothing, blank, emptied, holds, isFree, slotOf, freeSlot, slotAt, entryAt, found, put, filled, unitDropped, touches, entryDropped, rangeDropped, SoundCache}
 
 -- A cache of any make is a type C with these operations. An entry stands at a number, and `nothing` where there is none.
-pub record CacheLaws
-    (C : Type 0) (Sound : C → Type 0) (at : C → ℕ → Entry) (find : C → ℕ → Found)
-    (new : C) (empty : C → C) (fill : Entry → C → C) (drop : ℕ → C → C) (dropRange : ℕ → Range → C → C) : Type 0 where
+pub record CacheLaws (C : Type 0) (Sound : C → Type 0) (at : C → ℕ → Entry) (find : C → ℕ → Found) (new : C) (empty : C → C) (fill : Entry → C → C) (drop : ℕ → C → C) (dropRange : ℕ → Range → C → C) : Type 0 where
   -- a unit has at most one entry
   pub single : (c : C) → Sound c → (i j : ℕ) → at c i .used ≡ true → at c j .used ≡ true → at c i .unit ≡ at c j .unit → i ≡ j
   -- what is found is an entry of the unit, and is held; an entry that is held is found by its unit

@@ -20,7 +20,7 @@ use Rattle.span.specs.declared.Translation.{Translation}
 use Rattle.span.specs.declared.Size.{Size}
 use Rattle.span.specs.declared.Size.the-variants.{Exponent, NoSize}
 use Rattle.span.specs.Range.{regionOf, roundedOf, reachOf, runOf, movedTo}
-use Rattle.span.specs.Size.{lowestZero, sizeOf, bytesCoded, translationOf}
+use Rattle.span.specs.Size.{lowestZero, sizeOf, translationOf}
 use lib.ListN.{replicate}
 use Rattle.lemmas.specs.First.{firstAt}
 use Rattle.lemmas.specs.Gather.{gather}
@@ -154,10 +154,10 @@ abbrev examples : List Example
 examples =
     -- 1: the body of a request, and a translation: 8192 bytes at 0; 16384 at 0
     reading (invalidate 0 0x0800) is gives (invalidation 0)
-    ∷ bytesCoded 0 true is 8192
+    ∷ sizeOf 0 true is Exponent 13
     ∷ translationOf 0x0800 is plain 0 (Exponent 13)
     ∷ reading (invalidate 0 0x1800) is gives (invalidation 0x1000)
-    ∷ bytesCoded 0x1000 true is 16384
+    ∷ sizeOf 0x1000 true is Exponent 14
     ∷ translationOf 0x1800 is plain 0 (Exponent 14)
     -- as a range at 0, and as what a read meets after the call
     ∷ snoopRange 0 (requested 0) is record { first = 0; last = 0x1FFF }
@@ -167,7 +167,7 @@ examples =
     ∷ reads (invalidated-by 0x1800) 0x2000 is number 13
     -- 2: 2 ^ 64 bytes; no size, which is 4 in a request
     ∷ reading (invalidate 0x7FFF_FFFF 0xFFFF_F800) is gives (invalidation 0x7FFF_FFFF_FFFF_F000)
-    ∷ bytesCoded 0x7FFF_FFFF_FFFF_F000 true is (2 ^ 64)
+    ∷ sizeOf 0x7FFF_FFFF_FFFF_F000 true is Exponent 64
     ∷ translationOf 0x7FFF_FFFF_FFFF_F800 is plain 0 (Exponent 64)
     ∷ reading (invalidate 0xFFFF_FFFF 0xFFFF_F800) is number 4
     ∷ translationOf 0xFFFF_FFFF_FFFF_F800 is plain 0 NoSize
@@ -193,5 +193,5 @@ examples =
     ∷ []
 
 pub examples-hold : Hold examples
-unfolding lowestZero sizeOf bytesCoded translationOf regionOf frameOf choose bodyIn shaped allowedBody withinBody loadOf formOf framed readForm reading bytesOf writing allHex unhex decimal decimalIn lineRead lineText outLine firstAt gather runTo allTo roundedOf reachOf runOf movedTo payloadIn wordAt translationAt found put unitDropped rangeDropped isIn joined freeTag heldAt placed rangeOf bytesAsked touches marks allStaled onBoundary firstPart partOf sizeOfAll beginsIn cameOf fitsAt allFit sizeFits judged unitFilled covered unitStep applied sending resetting enabling isBelowTop isAskable asking lookingUp accessing settled translated snoopRange invalidated completed taken received switchingOn isWaiting used isSpent credited requestingOn calling
+unfolding lowestZero sizeOf translationOf regionOf frameOf choose bodyIn shaped allowedBody withinBody loadOf formOf framed readForm reading bytesOf writing allHex unhex decimal decimalIn lineRead lineText outLine firstAt gather runTo allTo roundedOf reachOf runOf movedTo payloadIn wordAt translationAt found put unitDropped rangeDropped isIn joined freeTag heldAt placed rangeOf bytesAsked touches marks allStaled onBoundary firstPart partOf sizeOfAll beginsIn cameOf fitsAt allFit sizeFits judged unitFilled covered unitStep applied sending resetting enabling isBelowTop isAskable asking lookingUp accessing settled translated snoopRange invalidated completed taken received switchingOn isWaiting used isSpent credited requestingOn calling
 examples-hold = (refl, (refl, (refl, (refl, (refl, (refl, (refl, (refl, (refl, (refl, (refl, (refl, (refl, (refl, (refl, (refl, (refl, (refl, (refl, (refl, (refl, (refl, (refl, (refl, (refl, (refl, (refl, (refl, (refl, tt)))))))))))))))))))))))))))))

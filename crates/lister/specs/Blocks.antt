@@ -106,5 +106,8 @@ parts n from hold out p (b ∷ bs) h o r all few e =
     rw (fed-whole from hold b out h room (omega arith), e, take-at text (drop (length text) out) (length text) refl, again)
 
 -- the parts handed out, joined, are the listing of the blocks joined
-pub any-blocks : (n : ℕ) (hold out : List ℕ) (bs : List (List ℕ)) → Fits n hold out bs → joined (handedOut begun hold out bs) ≡ listing (joined bs)
+abbrev pub AnyBlocks : Type 0
+AnyBlocks = (n : ℕ) (hold out : List ℕ) (bs : List (List ℕ)) → Fits n hold out bs → joined (handedOut begun hold out bs) ≡ listing (joined bs)
+
+pub any-blocks : AnyBlocks
 any-blocks n hold out bs f = parts n begun hold out [] bs (f .0) (f .1) (f .2) (f .3) (f .4) refl ∙ any-pieces bs

@@ -1,6 +1,6 @@
 -- The first column of the table of kinds: what byte 0, and for a message byte 7, say of a packet.
-use Prim.Native.Nat.{ℕ, _+_, _*_}
-use mathlib.Core.Bool.{Bool, true, false, cond}
+use Prim.Native.Nat.{ℕ, _+_, _*_, _/_, _%_}
+use mathlib.Core.Bool.{Bool, cond}
 use lib.Dec.{eqb}
 use Rattle.packet.specs.declared.Choice.{Choice}
 use Rattle.packet.specs.declared.Choice.the-variants.{Listed, Unlisted}
@@ -34,31 +34,13 @@ firstOf InvCpl = 0x32
 firstOf PageReq = 0x30
 firstOf PrgResp = 0x32
 
--- the length of a form's header: 12 bytes where the address has 32 bits and in completions, else 16
+-- Bit 5 of byte 0 says how long the header is: 12 bytes where it is clear (a 32-bit address, and in completions), 16 where it is set.
 abbrev pub headerOf : Form → ℕ
-headerOf Mrd32 = 12
-headerOf Mrd64 = 16
-headerOf Mwr32 = 12
-headerOf Mwr64 = 16
-headerOf CplNoData = 12
-headerOf CplData = 12
-headerOf InvReq = 16
-headerOf InvCpl = 16
-headerOf PageReq = 16
-headerOf PrgResp = 16
+headerOf m = cond (eqb (firstOf m / 0x20 % 2) 0) 12 16
 
--- the forms behind whose header 4 × Length bytes follow: writes, completions with data, Invalidate Requests
+-- Bit 6 says whether 4 × Length bytes follow the header: in writes, completions with data and Invalidate Requests.
 abbrev pub carries : Form → Bool
-carries Mrd32 = false
-carries Mrd64 = false
-carries Mwr32 = true
-carries Mwr64 = true
-carries CplNoData = false
-carries CplData = true
-carries InvReq = true
-carries InvCpl = false
-carries PageReq = false
-carries PrgResp = false
+carries m = eqb (firstOf m / 0x40 % 2) 1
 
 -- how many DWORDs a Length stands for: 0 for 1024
 abbrev pub dwordsOf : ℕ → ℕ
@@ -68,18 +50,9 @@ dwordsOf w = cond (eqb w 0) 1024 w
 abbrev pub lengthOf : Form → ℕ → ℕ
 lengthOf m w = cond (carries m) (headerOf m + dwordsOf w * 4) (headerOf m)
 
--- the bytes before the payload: the header, and the body of an Invalidate Request, which holds fields
+-- the bytes before the payload: the header; of an Invalidate Request also its 8 bytes of data, which are fields
 abbrev pub fixedOf : Form → ℕ
-fixedOf Mrd32 = 12
-fixedOf Mrd64 = 16
-fixedOf Mwr32 = 12
-fixedOf Mwr64 = 16
-fixedOf CplNoData = 12
-fixedOf CplData = 12
-fixedOf InvReq = 24
-fixedOf InvCpl = 16
-fixedOf PageReq = 16
-fixedOf PrgResp = 16
+fixedOf m = cond (eqb (firstOf m) (firstOf InvReq)) (headerOf m + 8) (headerOf m)
 
 -- byte 7 of a MEM packet, its byte enables
 abbrev pub enablesOf : ℕ → ℕ

@@ -40,7 +40,7 @@ pub translation-at-settled : (κs : Lfts 1) (args : _) (x y : _) (e g : _) → t
 translation-at-settled κs args x y e g p q = p ∙ sym q
 
 pub size-of-settled : (κs : Lfts 0) (args : _) (x y : _) (e g : _) → size-of.Learnt κs args x e → size-of.Learnt κs args y g → x ≡ y
-size-of-settled κs args x y e g p q = p .0 ∙ sym (q .0)
+size-of-settled κs args x y e g p q = p ∙ sym q
 
 pub translation-of-settled : (κs : Lfts 0) (args : _) (x y : _) (e g : _) → translation-of.Learnt κs args x e → translation-of.Learnt κs args y g → x ≡ y
 translation-of-settled κs args x y e g p q = p ∙ sym q

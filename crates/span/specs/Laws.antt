@@ -12,7 +12,7 @@ use borrow.Author.Tests.{leb-true, le-leb, lt-ltb, ltb-true, ltb-false, eqb-true
 use Rattle.lemmas.specs.Cases.{byCases, and-both}
 use Rattle.span.specs.declared.Range.{Range}
 use Rattle.span.specs.declared.Size.the-variants.{Exponent, NoSize}
-use Rattle.span.specs.Size.{bit, lowestZero, sizeOf, bytesIn, bytesCoded, baseOf}
+use Rattle.span.specs.Size.{bit, lowestZero, sizeOf, baseOf}
 use Rattle.span.specs.Range.{regionIn, regionOf, roundedOf, meetsOf}
 
 -- A search that stands at bit b: all below it are ones.
@@ -29,12 +29,6 @@ unfolding lowestZero
 zero-end b x h = let s : 64 - b ≡ 0 = omega arith in rw s
 
 -- ---- sizes
-
--- an exponent stands for as many bytes as the code says
-pub size-in-bytes : (a : ℕ) (s : Bool) → bytesIn (sizeOf a s) ≡ bytesCoded a s
-unfolding sizeOf bytesCoded
-size-in-bytes a false = refl
-size-in-bytes a true = byCases (ltb (lowestZero 52 12 a) 64) (λ t. rw t) (λ t. rw t)
 
 -- how many ones a number ends in, k at most
 unfoldable pub trailing : ℕ → ℕ → ℕ

@@ -20,20 +20,9 @@ lowestZero (suc k) b x = cond (bit x b) (lowestZero k (b + 1) x) b
 abbrev pub sizeAt : ℕ → Size
 sizeAt b = cond (ltb b 64) (Exponent (b + 1)) NoSize
 
--- S clear is 4096 bytes; S set, the lowest zero bit at or above 12 says the size
+-- S clear is 2 ^ 12 bytes; S set, the lowest zero bit at or above 12 says the size
 unfoldable pub sizeOf : ℕ → Bool → Size
 sizeOf a s = cond s (sizeAt (lowestZero 52 12 a)) (Exponent 12)
-
--- the same in bytes; no size is 0
-abbrev pub bytesIn : Size → ℕ
-bytesIn (Exponent e) = 2 ^ e
-bytesIn NoSize = 0
-
-abbrev pub bytesAt : ℕ → ℕ
-bytesAt b = cond (ltb b 64) (2 ^ (b + 1)) 0
-
-unfoldable pub bytesCoded : ℕ → Bool → ℕ
-bytesCoded a s = cond s (bytesAt (lowestZero 52 12 a)) 4096
 
 -- the address with the bits below its size cleared; where there is no size there is no base, and 0 stands for it
 abbrev pub baseOf : ℕ → Size → ℕ

@@ -2,7 +2,7 @@
 // so that 2^64 never has to fit.
 ghost use mathlib.Core.Path.{_≡_};
 ghost use Prim.Native.Nat.{_/_, _*_, _^_, _≤_, max};
-ghost use Rattle.span.specs.Size.{lowestZero, sizeAt, sizeOf, bytesIn, bytesCoded, baseOf, translationOf};
+ghost use Rattle.span.specs.Size.{lowestZero, sizeAt, sizeOf, baseOf, translationOf};
 ghost use Rattle.span.specs.Range.{unitExponent, unitBytes, regionOf, roundedOf, reachOf, runOf, movedTo, meetsOf};
 
 pub enum Size {
@@ -52,8 +52,7 @@ fn size_at(b: u32) -> Size
 
 // The size that an address and its S bit code.
 pub fn size_of(address: u64, sized: bool) -> Size
-    ensures answer { λ r. ⌜ r ≡ sizeOf address sized ⌝ }
-    ensures paper { λ r. ⌜ bytesIn r ≡ bytesCoded address sized ⌝ }
+    ensures { λ r. ⌜ r ≡ sizeOf address sized ⌝ }
 {
     if sized {
         size_at(lowest_zero(address))

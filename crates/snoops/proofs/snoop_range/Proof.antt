@@ -17,7 +17,7 @@ rounded-requires c κs = search needs
 
 returns : tie.Need-returns
 unfolding snoopRange
-returns c = rw (c .rounded .ensures, c .before .unit-exponent .ensures, c .before .before .exponent-of .ensures, c .before .before .before .size-of .ensures .0)
+returns c = rw (c .rounded .ensures, c .before .unit-exponent .ensures, c .before .before .exponent-of .ensures, c .before .before .before .size-of .ensures)
 
 pub snoop-range-spec : {M : Type 1} → statement M
 snoop-range-spec =

@@ -11,7 +11,7 @@ base-of-requires c κs = search needs
 
 returns : tie.Need-returns
 unfolding translationOf
-returns c = simp (c .base-of .ensures, c .before .size-of .ensures .0)
+returns c = simp (c .base-of .ensures, c .before .size-of .ensures)
 
 pub translation-of-spec : {M : Type 1} → statement M
 translation-of-spec = tie.close (tie.spec size-of-requires base-of-requires returns)

@@ -1,4 +1,4 @@
--- Access, and the look-up that says where one goes. 01, "The Function's tables".
+-- Access, and the look-up that says where one goes. 01, "Access".
 use mathlib.Core.Bool.{Bool, true, false, cond, _&&_}
 use mathlib.Core.List.{List}
 use Prim.Native.Nat.{ℕ, _+_, _*_, _%_}

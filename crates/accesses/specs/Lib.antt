@@ -1,2 +1,1 @@
 pub mod Access
-pub mod Laws

@@ -1,12 +1,8 @@
--- Ask. 01, "The Function's tables".
-use mathlib.Core.Path.{_≡_}
-use mathlib.Core.Bool.{Bool, true, _&&_}
+-- Ask. 01, "Ask".
+use mathlib.Core.Bool.{Bool, _&&_}
 use mathlib.Core.List.{List, []}
-use Prim.Native.Nat.{ℕ, _+_, _-_, _*_, _/_, _^_, _≤_}
-use native.Mathlib.Nat.{le-trans}
-use lib.Dec.{leb, lit≤}
-use borrow.Author.Tests.{leb-true}
-use Rattle.lemmas.specs.Cases.{and-both}
+use Prim.Native.Nat.{ℕ, _+_, _-_, _*_, _/_, _^_}
+use lib.Dec.{leb}
 use Rattle.span.specs.Range.{unitExponent, unitBytes, regionOf}
 use Rattle.packet.specs.declared.Tag.{Tag}
 use Rattle.packet.specs.declared.Packet.{Packet}
@@ -16,7 +12,6 @@ use Rattle.tags.specs.declared.FreeTag.{FreeTag}
 use Rattle.tags.specs.declared.FreeTag.the-variants.{Lowest, NoneFree}
 use Rattle.tags.specs.Tags.{freeTag, asked}
 use Rattle.replies.specs.declared.Rcb.{Rcb}
-use Rattle.replies.specs.declared.Rcb.the-variants.{B64, B128}
 use Rattle.replies.specs.Fits.{boundary}
 use Rattle.state.specs.declared.Function.{Function}
 use Rattle.state.specs.State.{headOf, withPlace}
@@ -56,14 +51,3 @@ asking f a out =
     demand 6 (f .enabled)
     (demand 12 (isAskable (f .rcb) (f .stu) a)
     (askOn f (freeTag (f .places)) a out))
-
--- what may be asked for is 16 units at most
-pub few-units : (rcb : Rcb) (stu : ℕ) (a : Asking) → isAskable rcb stu a ≡ true → (1 ≤ a .units) × (a .units ≤ 16)
-unfolding isAskable
-few-units rcb stu a e =
-    let few = and-both (leb 1 (a .units)) (leb (a .units) (boundary rcb / 8)) (and-both (isFew rcb (a .units)) (isBelowTop stu (a .address) (a .units)) e .0) in
-    (leb-true 1 (a .units) (few .0), le-trans (leb-true (a .units) (boundary rcb / 8) (few .1)) (most rcb))
-  where
-    most : (rcb : Rcb) → boundary rcb / 8 ≤ 16
-    most B64 = lit≤ tt
-    most B128 = lit≤ tt

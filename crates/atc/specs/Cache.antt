@@ -1,4 +1,4 @@
--- The cache. 01, "The Function's tables", ATC.
+-- The cache. 01, "ATC".
 use mathlib.Core.Path.{_≡_}
 use mathlib.Core.Bool.{Bool, true, false, not, cond, _&&_}
 use mathlib.Core.List.{List, map}

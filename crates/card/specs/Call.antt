@@ -1,4 +1,4 @@
--- One definition over all calls.
+-- One definition over all calls. Serves 01, "The Function's tables".
 use mathlib.Core.List.{List}
 use Prim.Native.Nat.{ℕ}
 use Rattle.packet.specs.Numbers.{Said}

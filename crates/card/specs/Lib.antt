@@ -1,9 +1,3 @@
 pub mod Call
 pub mod Numbers
-pub mod Cases
-pub mod Refused
-pub mod Told
-pub mod Tables
 pub mod Sound
-pub mod Kept
-pub mod Completed

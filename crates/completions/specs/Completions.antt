@@ -1,4 +1,4 @@
--- A completion, by what its tag is open for. 01, "The seventeen numbers": 7, 8.
+-- A completion, by what its tag is open for: 7, 8. 01, "The seventeen numbers".
 use mathlib.Core.List.{List}
 use Prim.Native.Nat.{ℕ}
 use lib.ListN.{length}

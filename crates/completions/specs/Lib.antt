@@ -1,4 +1,3 @@
 pub mod Reads
 pub mod Translations
 pub mod Completions
-pub mod Laws

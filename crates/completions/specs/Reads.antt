@@ -1,4 +1,4 @@
--- Completion for a read. 01, "The Function's tables".
+-- Completion for a read. 01, "Completion for a read".
 use mathlib.Core.Bool.{cond}
 use Prim.Native.Nat.{ℕ, _-_}
 use lib.Dec.{eqb, leb}

@@ -1,4 +1,4 @@
--- Completion for a Translation Request. 01, "The Function's tables".
+-- Completion for a Translation Request. 01, "Completion for a TR, no data", "Completion for a TR, data".
 use mathlib.Core.Bool.{Bool, false, cond, not, _&&_}
 use mathlib.Core.List.{List}
 use Prim.Native.Nat.{ℕ}
@@ -8,7 +8,6 @@ use Rattle.packet.specs.Numbers.{Said, number, refuse}
 use Rattle.tags.specs.declared.Tr.{Tr}
 use Rattle.tags.specs.declared.Open.{Open}
 use Rattle.tags.specs.declared.Open.the-variants.{Free, Ask}
-use Rattle.tags.specs.Tags.{placed}
 use Rattle.replies.specs.declared.Part.{Part}
 use Rattle.replies.specs.declared.Part.the-variants.{Misfit, Off, First, Last}
 use Rattle.replies.specs.Fits.{judged}

@@ -1,4 +1,4 @@
--- The third demand, as a statement about any machine whose calls can be seen. `OrderFrom` and `Order`, at the end, are the demand; all before them are its words.
+-- The third demand, as a statement about any machine whose calls can be seen. `OrderFrom` and `Order`, at the end, are the demand; all before them are its words. Serves 01, "How much each call must settle".
 -- Lists of calls, and histories of what was seen of them, stand newest first.
 use mathlib.Core.Path.{_≡_}
 use mathlib.Core.Logic.{_⊎_}

@@ -1,1 +1,1 @@
-// Demand 3, for any machine whose calls can be seen: definitions and theorems only, in specs/.
+// Demand 3, for any machine whose calls can be seen: definitions in specs/ and theorems in proofs/ only.

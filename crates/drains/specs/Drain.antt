@@ -1,4 +1,4 @@
--- Drain. 01, "The Function's tables".
+-- Drain. 01, "Drain".
 use mathlib.Core.Bool.{cond}
 use mathlib.Core.List.{List, []}
 use Prim.Native.Nat.{ℕ}

@@ -1,9 +1,9 @@
--- THE THREE DEMANDS, as statements about the card. Open this file first.
+-- THE THREE DEMANDS, as statements about the card. Open this file first. Serves 01, "How much each call must settle".
 --
 -- `step f c bytes out` is what a call c does to the state f, with the bytes that it is given and the buffer `out` that it is lent. It is a definition (card/specs/Call.antt), and the
 -- contract of `card::call` says that the code does just that, for every state, call, packet and buffer.
 --
---   Demand 1 · `Demand1`, proved by `demand-1` in Proved.antt
+--   Demand 1 · `Demand1`, proved by `demand-1` in proofs/Proved.antt
 --   Demand 2 · `Demand2`, proved by `demand-2`; what it says of packets and states is what the definitions say
 --   Demand 3 · `Demand3`, proved by `demand-3`
 use mathlib.Core.Path.{_≡_}

@@ -1,1 +1,1 @@
-// What is promised of the card over every run of calls: definitions and theorems only, in specs/.
+// What is promised of the card over every run of calls: definitions in specs/ and theorems in proofs/ only.

@@ -1,11 +1,4 @@
-pub mod Cases
-pub mod Powers
 pub mod First
-pub mod Maps
 pub mod Gather
 pub mod Run
 pub mod All
-pub mod Tests
-pub mod Bits
-pub mod Bools
-pub mod Settled

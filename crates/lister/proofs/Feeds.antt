@@ -11,10 +11,10 @@ use lib.ListN.{length, take, drop, getD, length-drop, take-append-drop, drop-of-
 use lib.Seq.{take-suc, take-add, append-snoc, split-at, take-all, length-take-le, getD-take}
 use borrow.Author.Tests.{ne-eqb, eqb-true, not-true, leb-true, leb-false}
 use Rattle.text.specs.Digits.{isHex, allHex}
-use Rattle.text.specs.Pairs.{hex-cons, digit-at}
+use Rattle.text.proofs.Pairs.{hex-cons, digit-at}
 use Rattle.lister.specs.Line.{lineText}
 use Rattle.lister.specs.Stream.{printed, numberAfter, startAfter}
-use Rattle.lister.specs.Cuts.{printed-append, numberAfter-append, startAfter-append}
+use Rattle.lister.proofs.Cuts.{printed-append, numberAfter-append, startAfter-append}
 use Rattle.lister.specs.Pieces.{noFeed, LineEnd}
 
 and-assoc : (a b c : Bool) → (a && b && c) ≡ (a && (b && c))

@@ -14,9 +14,9 @@ use Rattle.lister.specs.declared.Progress.{Progress}
 use Rattle.lister.specs.Line.{lineRead, lineText}
 use Rattle.rows.specs.Places.{Laid}
 use Rattle.lister.specs.Stream.{printed, numberAfter, startAfter, lastText, cut}
-use Rattle.lister.specs.Cuts.{lineText-cut}
+use Rattle.lister.proofs.Cuts.{lineText-cut}
 use Rattle.lister.specs.Pieces.{startIn, takes, fed, finished}
-use Rattle.rows.specs.Laying.{then, laid-start, laid-after, at-start, row-none}
+use Rattle.rows.proofs.Laying.{then, laid-start, laid-after, at-start, row-none}
 
 cut-after : (p cs : List ℕ) → length p ≤ 289 → p ++ take (289 - length p) cs ≡ cut (p ++ cs)
 cut-after p cs h =

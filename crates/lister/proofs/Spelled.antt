@@ -11,7 +11,7 @@ use Rattle.packet.specs.Reading.{reading}
 use Rattle.text.specs.Digits.{allHex, unhex}
 use Rattle.lister.specs.Line.{lineRead}
 use Rattle.lister.specs.Runs.{HexRun}
-use Rattle.text.specs.Pairs.{no-byte}
+use Rattle.text.proofs.Pairs.{no-byte}
 
 -- a line of 288 characters or fewer, an even number of them
 even-line : (cs : List ℕ) → length cs ≤ 288 → length cs % 2 ≡ 0 → lineRead cs ≡ demand 0 (allHex cs) (reading (unhex cs))

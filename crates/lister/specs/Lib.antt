@@ -3,6 +3,4 @@ pub mod Line
 pub mod Stream
 pub mod Cuts
 pub mod Pieces
-pub mod Calls
 pub mod Blocks
-pub mod Told

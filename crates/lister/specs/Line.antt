@@ -1,4 +1,4 @@
--- The listing of one line.
+-- The listing of one line. 01, "Listing program".
 use Prim.Native.Nat.{ℕ, _%_}
 use mathlib.Core.List.{List}
 use lib.ListN.{length}

@@ -1,4 +1,4 @@
--- What a block of the input leaves.
+-- What a block of the input leaves. Serves 01, "Listing program".
 use Prim.Native.Nat.{ℕ, _-_, _/_, _^_, _≤_, _<_, min}
 use mathlib.Core.Path.{_≡_}
 use mathlib.Core.Bool.{Bool, true, cond, not, _&&_}

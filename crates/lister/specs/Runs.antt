@@ -1,4 +1,4 @@
--- Bytes spelled by the characters at the start of a list.
+-- Bytes spelled by the characters at the start of a list. Serves 01, "Listing program".
 use Prim.Native.Nat.{ℕ, _+_, _*_, _≤_, _<_}
 use mathlib.Core.Path.{_≡_}
 use mathlib.Core.Bool.{true, false, _&&_}

@@ -1,4 +1,4 @@
--- The listing of a whole input, read in pieces of any size.
+-- The listing of a whole input, read in pieces of any size. 01, "Listing program".
 use Prim.Native.Nat.{ℕ, _+_}
 use mathlib.Core.Bool.{cond}
 use mathlib.Core.List.{List, [], _∷_, _++_}

@@ -1,4 +1,4 @@
--- The first column of the table of kinds: what byte 0, and for a message byte 7, say of a packet.
+-- The first column of the table of kinds: what byte 0, and for a message byte 7, say of a packet. 01, "The seven packets".
 use Prim.Native.Nat.{ℕ, _+_, _*_, _/_, _%_}
 use mathlib.Core.Bool.{Bool, cond}
 use lib.Dec.{eqb}

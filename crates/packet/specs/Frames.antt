@@ -1,4 +1,4 @@
--- A header taken apart into a frame, and a frame spelled as bytes: byte 0 is the first on the wire, and numbers of several bytes have their high byte first.
+-- A header taken apart into a frame, and a frame spelled as bytes: byte 0 is the first on the wire, and numbers of several bytes have their high byte first. 01, "The seven packets".
 use Prim.Native.Nat.{ℕ, _+_, _*_, _/_, _%_}
 use mathlib.Core.Bool.{cond}
 use mathlib.Core.List.{List, [], _∷_, _++_}

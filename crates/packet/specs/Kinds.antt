@@ -1,4 +1,4 @@
--- The rest of the table of kinds: the fields of each kind in a frame, the frame of a packet, what is forbidden, and what its bits hold.
+-- The rest of the table of kinds: the fields of each kind in a frame, the frame of a packet, what is forbidden, and what its bits hold. 01, "The seven packets", "Forbidden values".
 use Prim.Native.Nat.{ℕ, _+_, _*_, _/_, _%_}
 use mathlib.Core.Bool.{Bool, true, cond, not, _&&_}
 use lib.Dec.{ltb, leb, eqb}

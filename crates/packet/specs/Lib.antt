@@ -5,6 +5,4 @@ pub mod Kinds
 pub mod Reading
 pub mod Writing
 pub mod Normal
-pub mod Laws
-pub mod Told
 pub mod Among

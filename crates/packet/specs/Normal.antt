@@ -1,4 +1,4 @@
--- The bits that have a name, as one mask for each kind: read off the table. What a mask clears is ignored on reading and written zero.
+-- The bits that have a name, as one mask for each kind: read off the table. What a mask clears is ignored on reading and written zero. 01, "The seven packets".
 use Prim.Native.Nat.{ℕ}
 use mathlib.Core.Bool.{Bool, cond}
 use mathlib.Core.List.{List, [], _∷_, _++_}

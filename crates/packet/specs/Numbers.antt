@@ -1,4 +1,4 @@
--- The seventeen numbers, and what the paper says of a call.
+-- The seventeen numbers, and what the paper says of a call. 01, "The seventeen numbers".
 use Prim.Native.Nat.{ℕ}
 use mathlib.Core.Bool.{Bool, cond}
 use Rattle.packet.specs.declared.Refusal.{Refusal}

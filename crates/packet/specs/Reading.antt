@@ -1,4 +1,4 @@
--- Reading, in its order: 1 (under 12, over 144), 2, 1 (any other length), 3, 4.
+-- Reading, in its order: 1 (under 12, over 144), 2, 1 (any other length), 3, 4. 01, "Order".
 use Prim.Native.Nat.{ℕ, _*_, _/_}
 use mathlib.Core.Bool.{cond}
 use mathlib.Core.List.{List, []}

@@ -1,4 +1,4 @@
--- Writing, in its order: 12, 4, 17; the bytes of a packet; the buffer afterwards.
+-- Writing, in its order: 12, 4, 17; the bytes of a packet; the buffer afterwards. 01, "Order".
 use Prim.Native.Nat.{ℕ, _+_}
 use mathlib.Core.List.{List, _++_}
 use lib.ListN.{length, take, drop}

@@ -1,4 +1,4 @@
--- The page request interface. 01, "The Function's tables", Page requests.
+-- The page request interface. 01, "Page requests".
 use mathlib.Core.Bool.{Bool, false, cond, _&&_}
 use mathlib.Core.List.{List}
 use Prim.Native.Nat.{ℕ, _+_, _%_, _^_}

@@ -1,3 +1,2 @@
 pub mod Responses
 pub mod Receive
-pub mod Laws

@@ -1,4 +1,4 @@
--- Receiving. 01, "The Function's tables" and "The seventeen numbers", Order: what reading refuses; 2 for a kind that is not taken; 5; then the numbers of the kind.
+-- Receiving: what reading refuses; 2 for a kind that is not taken; 5; then the numbers of the kind. 01, "Order", "Completion for a read".
 use mathlib.Core.Bool.{Bool, true, false, cond}
 use mathlib.Core.List.{List, []}
 use Prim.Native.Nat.{ℕ}

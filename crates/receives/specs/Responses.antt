@@ -1,4 +1,4 @@
--- PRG Response. 01, "The Function's tables", Page requests.
+-- PRG Response. 01, "Page requests".
 use mathlib.Core.Bool.{cond}
 use Prim.Native.Nat.{ℕ}
 use lib.Dec.{leb}

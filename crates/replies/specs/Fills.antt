@@ -1,4 +1,4 @@
--- What a completion that fits does to the cache and to its request. 01, "The Function's tables", Completion for a TR, data.
+-- What a completion that fits does to the cache and to its request. 01, "Completion for a TR, data".
 use mathlib.Core.Bool.{Bool, true, cond, _||_}
 use mathlib.Core.List.{List}
 use Prim.Native.Nat.{ℕ, _+_, _-_, _*_, _/_, _^_}

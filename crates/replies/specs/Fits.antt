@@ -1,4 +1,4 @@
--- Does a completion with data fit its Translation Request? 01, "The Function's tables", Completion for a TR, data.
+-- Does a completion with data fit its Translation Request? 01, "Completion for a TR, data".
 use mathlib.Core.Bool.{Bool, false, cond, _&&_}
 use mathlib.Core.List.{List}
 use Prim.Native.Nat.{ℕ, _+_, _-_, _*_, _/_, _%_, _^_}

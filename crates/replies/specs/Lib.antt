@@ -1,4 +1,2 @@
 pub mod Fits
 pub mod Fills
-pub mod Laws
-pub mod Parts

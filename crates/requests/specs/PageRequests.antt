@@ -1,4 +1,4 @@
--- Page requests. 01, "The Function's tables".
+-- Page requests. 01, "Page requests".
 use mathlib.Core.Bool.{Bool, _&&_, _||_}
 use mathlib.Core.List.{List, []}
 use Prim.Native.Nat.{ℕ, _%_}

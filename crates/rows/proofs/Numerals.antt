@@ -6,7 +6,8 @@ use lib.ListN.{length, take, drop, length-drop}
 use lib.Seq.{take-all}
 use Rattle.text.specs.declared.Numeral.{Numeral}
 use Rattle.text.specs.Digits.{decimal}
-use Rattle.text.specs.Numerals.{numeral, numeral-starts, numeral-long, numeral-ends}
+use Rattle.text.specs.Numerals.{numeral}
+use Rattle.text.proofs.Numerals.{numeral-starts, numeral-long, numeral-ends}
 
 pub starts : (n : ℕ) (x : Numeral) → x ≡ numeral n → x .start + length (decimal n) ≡ 20
 starts n x e = rw e (numeral-starts n)

@@ -1,5 +1,3 @@
 pub mod Rows
 pub mod Words
 pub mod Places
-pub mod Short
-pub mod Laying

@@ -1,4 +1,4 @@
--- Text laid into a buffer at a place.
+-- Text laid into a buffer at a place. Serves 01, "Listing program".
 use Prim.Native.Nat.{ℕ, _+_}
 use mathlib.Core.Path.{_≡_}
 use mathlib.Core.List.{List, _++_}

@@ -1,4 +1,4 @@
--- The output line of a packet or of a refusal: number, kind, sender and label, parted by tabs.
+-- The output line of a packet or of a refusal: number, kind, sender and label, parted by tabs. 01, "Listing program".
 use Prim.Native.Nat.{ℕ}
 use mathlib.Core.Bool.{cond}
 use mathlib.Core.List.{List, [], _∷_, _++_}

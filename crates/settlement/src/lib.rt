@@ -1,1 +1,1 @@
-// Settlement of every public operation: theorems only, in specs/.
+// Settlement of every public operation: theorems only, in proofs/.

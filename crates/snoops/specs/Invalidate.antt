@@ -1,4 +1,4 @@
--- Invalidate Request. 01, "The Function's tables".
+-- Invalidate Request. 01, "Invalidate Request".
 use mathlib.Core.Bool.{Bool, false, not}
 use Prim.Native.Nat.{ℕ}
 use lib.Dec.{eqb}

@@ -1,4 +1,2 @@
 pub mod Size
 pub mod Range
-pub mod Laws
-pub mod Runs

@@ -1,4 +1,4 @@
--- Ranges of addresses, from their first byte to their last.
+-- Ranges of addresses, from their first byte to their last. 01, "The Function's tables", "Invalidate Request".
 use Prim.Native.Nat.{ℕ, _+_, _-_, _*_, _/_, _%_, _^_, min, max}
 use mathlib.Core.Bool.{Bool, _&&_}
 use lib.Dec.{leb}

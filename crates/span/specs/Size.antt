@@ -1,4 +1,4 @@
--- Sizes: the code that a translation and an Invalidate Request's body share.
+-- Sizes: the code that a translation and an Invalidate Request's body share. 01, "Sizes".
 use Prim.Native.Nat.{ℕ, zero, suc, _+_, _/_, _%_, _^_}
 use mathlib.Core.Bool.{Bool, cond}
 use lib.Dec.{ltb, eqb}

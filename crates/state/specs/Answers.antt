@@ -5,7 +5,7 @@ use lib.ListN.{length, drop}
 use Rattle.packet.specs.declared.Packet.{Packet}
 use Rattle.packet.specs.declared.Refusal.{Refusal}
 use Rattle.packet.specs.Numbers.{Said, gives, number, numberOf}
-use Rattle.packet.specs.Writing.{writing, bytesOf, after}
+use Rattle.packet.specs.Writing.{writing, bytesOf}
 use Rattle.state.specs.declared.Function.{Function}
 use Rattle.state.specs.declared.Answer.{Answer}
 use Rattle.state.specs.declared.Answer.the-variants.{Done, Opened, Carried, Discarded, More, Filled, Aborted, SwitchedOff, PayloadMore, PayloadLast, ReadFailed, Refused}

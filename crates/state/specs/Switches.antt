@@ -1,4 +1,4 @@
--- Reset, Enable, Disable, and the page interface on and off. 01, "The Function's tables".
+-- Reset, Enable, Disable, and the page interface on and off. 01, "The Function's tables", "Enable / disable", "Page requests".
 use mathlib.Core.Bool.{Bool, true, false, cond, _&&_}
 use Prim.Native.Nat.{ℕ}
 use lib.Dec.{leb}

@@ -1,4 +1,4 @@
--- Sets of ITags as vectors, ITag 0 in the lowest bit.
+-- Sets of ITags as vectors, ITag 0 in the lowest bit. 01, "The seven packets", "Drain".
 use mathlib.Core.Bool.{Bool}
 use Prim.Native.Nat.{ℕ, _-_, _/_, _%_, _^_}
 use lib.Dec.{eqb}

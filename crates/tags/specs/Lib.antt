@@ -1,3 +1,2 @@
 pub mod Itags
 pub mod Tags
-pub mod Laws

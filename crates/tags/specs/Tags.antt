@@ -1,4 +1,4 @@
--- The tags. 01, "The Function's tables", Ask, Access, Invalidate Request.
+-- The tags. 01, "Ask", "Access", "Invalidate Request".
 use mathlib.Core.Bool.{Bool, true, false, cond, _&&_}
 use mathlib.Core.List.{List, map}
 use Prim.Native.Nat.{ℕ, _-_}

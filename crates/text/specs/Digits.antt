@@ -1,4 +1,4 @@
--- Numbers as text: hex read in either case and written in upper case, decimal with no leading zero.
+-- Numbers as text: hex read in either case and written in upper case, decimal with no leading zero. 01, "Listing program".
 use Prim.Native.Nat.{ℕ, zero, suc, _+_, _-_, _*_, _/_, _%_}
 use mathlib.Core.Bool.{Bool, true, cond, _&&_}
 use mathlib.Core.List.{List, [], _∷_, _++_}

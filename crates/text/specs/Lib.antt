@@ -1,4 +1,2 @@
 pub mod Digits
 pub mod Numerals
-pub mod Values
-pub mod Pairs

@@ -1,10 +1,5 @@
 pub mod Frames
 pub mod Fields
-pub mod Masks
-pub mod Tidy
-pub mod Refit
-pub mod Trips
 pub mod Forbidden
-pub mod Laws
 pub mod Translations
 pub mod Words

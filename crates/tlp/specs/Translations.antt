@@ -1,4 +1,4 @@
--- The translations that a payload holds.
+-- The translations that a payload holds. 01, "Completion for a TR, data".
 use mathlib.Core.List.{List}
 use Prim.Native.Nat.{ℕ}
 use Rattle.packet.specs.Reading.{wordAt}

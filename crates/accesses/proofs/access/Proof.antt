@@ -1,6 +1,6 @@
 use mathlib.Core.Path.{sym, ap, _∙_}
 use Rattle.accesses.specs.Access.{accessing, paperGoes}
-use Rattle.accesses.specs.Laws.{reached}
+use Rattle.accesses.proofs.Laws.{reached}
 use borrow.Author.Needs.{needs}
 use Rattle.accesses.proofs.access.Statement.{statement}
 use Rattle.accesses.proofs.access.Tie as tie

@@ -1,4 +1,4 @@
-use Rattle.lemmas.specs.Cases.{cases}
+use Rattle.lemmas.proofs.Cases.{cases}
 use borrow.Author.Needs.{needs}
 use Rattle.accesses.proofs.is_in_page.Statement.{statement}
 use Rattle.accesses.proofs.is_in_page.Tie as tie

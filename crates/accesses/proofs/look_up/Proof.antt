@@ -1,6 +1,6 @@
 use mathlib.Core.Path.{refl, sym, _∙_}
 use borrow.Author.Tests.{eq-eqb, ne-eqb}
-use Rattle.lemmas.specs.Cases.{take-case, skip-case}
+use Rattle.lemmas.proofs.Cases.{take-case, skip-case}
 use Rattle.accesses.specs.Access.{lookingUp}
 use borrow.Author.Needs.{needs}
 use Rattle.accesses.proofs.look_up.Statement.{statement}

@@ -1,5 +1,5 @@
 use native.Mathlib.Omega.{arith}
-use Rattle.state.specs.Ends.{end-sent, end-unsent}
+use Rattle.state.proofs.Ends.{end-sent, end-unsent}
 use borrow.Author.Needs.{needs}
 use Rattle.accesses.proofs.read_from.Statement.{statement}
 use Rattle.accesses.proofs.read_from.Tie as tie

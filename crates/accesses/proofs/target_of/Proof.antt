@@ -1,4 +1,4 @@
-use Rattle.lemmas.specs.Cases.{take-case, skip-case}
+use Rattle.lemmas.proofs.Cases.{take-case, skip-case}
 use mathlib.Core.Path.{refl}
 use borrow.Author.Needs.{needs}
 use Rattle.accesses.proofs.target_of.Statement.{statement}

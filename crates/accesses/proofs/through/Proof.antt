@@ -1,5 +1,5 @@
 use mathlib.Core.Path.{refl, sym, _∙_}
-use Rattle.lemmas.specs.Cases.{take-case, skip-case}
+use Rattle.lemmas.proofs.Cases.{take-case, skip-case}
 use borrow.Author.Needs.{needs}
 use Rattle.accesses.proofs.through.Statement.{statement}
 use Rattle.accesses.proofs.through.Tie as tie

@@ -1,4 +1,4 @@
-use Rattle.state.specs.Ends.{end-sent, end-unsent}
+use Rattle.state.proofs.Ends.{end-sent, end-unsent}
 use borrow.Author.Needs.{needs}
 use Rattle.accesses.proofs.write_to.Statement.{statement}
 use Rattle.accesses.proofs.write_to.Tie as tie

@@ -1,6 +1,7 @@
 use mathlib.Core.Path.{sym, _∙_, refl}
-use Rattle.state.specs.Ends.{end-take, end-skip}
-use Rattle.asks.specs.Ask.{few-units, asking}
+use Rattle.state.proofs.Ends.{end-take, end-skip}
+use Rattle.asks.specs.Ask.{asking}
+use Rattle.asks.proofs.AskLaws.{few-units}
 use borrow.Author.Needs.{needs}
 use Rattle.asks.proofs.ask.Statement.{statement}
 use Rattle.asks.proofs.ask.Tie as tie

@@ -1,4 +1,4 @@
-use Rattle.state.specs.Ends.{end-sent, end-unsent}
+use Rattle.state.proofs.Ends.{end-sent, end-unsent}
 use borrow.Author.Needs.{needs}
 use Rattle.asks.proofs.ask_with.Statement.{statement}
 use Rattle.asks.proofs.ask_with.Tie as tie

@@ -1,6 +1,6 @@
 use mathlib.Core.Path.{sym, _∙_}
 use borrow.Author.Tests.{leb-true}
-use Rattle.lemmas.specs.Cases.{and-next, and-stop, and-both}
+use Rattle.lemmas.proofs.Cases.{and-next, and-stop, and-both}
 use Rattle.asks.specs.Ask.{isAskable}
 use borrow.Author.Needs.{needs}
 use Rattle.asks.proofs.is_askable.Statement.{statement}

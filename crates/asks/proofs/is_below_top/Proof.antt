@@ -1,6 +1,6 @@
 use native.Mathlib.Omega.{arith}
-use Rattle.span.specs.Runs.{many-fit, some-bytes, region-lt-top}
-use Rattle.lemmas.specs.Tests.{room-leb}
+use Rattle.span.proofs.Runs.{many-fit, some-bytes, region-lt-top}
+use Rattle.lemmas.proofs.Tests.{room-leb}
 use Rattle.asks.specs.Ask.{isBelowTop}
 use borrow.Author.Needs.{needs}
 use Rattle.asks.proofs.is_below_top.Statement.{statement}

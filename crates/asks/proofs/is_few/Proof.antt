@@ -1,4 +1,4 @@
-use Rattle.lemmas.specs.Cases.{and-next, and-stop}
+use Rattle.lemmas.proofs.Cases.{and-next, and-stop}
 use borrow.Author.Tests.{le-leb, lt-leb}
 use borrow.Author.Needs.{needs}
 use Rattle.asks.proofs.is_few.Statement.{statement}

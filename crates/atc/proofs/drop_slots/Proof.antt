@@ -3,7 +3,7 @@ use mathlib.Core.Path.{_≡_, refl, _∙_}
 use Prim.Native.Nat.{_-_, _≤_}
 use native.Mathlib.Omega.{arith}
 use lib.ListN.{length}
-use Rattle.lemmas.specs.Maps.{mapTo, map-turn, map-keep, map-end}
+use Rattle.lemmas.proofs.Maps.{mapTo, map-turn, map-keep, map-end}
 use Rattle.atc.specs.Cache.{entryDropped, nothing}
 use borrow.Author.Needs.{needs}
 use Rattle.atc.proofs.drop_slots.Statement.{statement}

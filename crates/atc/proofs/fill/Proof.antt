@@ -1,4 +1,4 @@
-use Rattle.lemmas.specs.Cases.{cases}
+use Rattle.lemmas.proofs.Cases.{cases}
 use Rattle.atc.specs.Cache.{filled}
 use borrow.Author.Needs.{needs}
 use Rattle.atc.proofs.fill.Statement.{statement}

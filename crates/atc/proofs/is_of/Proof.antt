@@ -1,4 +1,4 @@
-use Rattle.lemmas.specs.Cases.{cases}
+use Rattle.lemmas.proofs.Cases.{cases}
 use borrow.Author.Needs.{needs}
 use Rattle.atc.proofs.is_of.Statement.{statement}
 use Rattle.atc.proofs.is_of.Tie as tie

@@ -1,7 +1,7 @@
 use mathlib.Core.Path.{refl}
 use native.Mathlib.Omega.{arith}
 use borrow.Author.Tests.{eq-eqb, ne-eqb, le-leb, lt-leb}
-use Rattle.state.specs.Ends.{end-take, end-skip}
+use Rattle.state.proofs.Ends.{end-take, end-skip}
 use Rattle.completions.specs.Reads.{fetched}
 use borrow.Author.Needs.{needs}
 use Rattle.completions.proofs.take_data.Statement.{statement}

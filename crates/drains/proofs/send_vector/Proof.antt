@@ -1,6 +1,6 @@
 use mathlib.Core.Path.{refl}
 use borrow.Author.Tests.{eq-eqb, ne-eqb}
-use Rattle.state.specs.Ends.{end-take, end-skip, end-sent, end-unsent}
+use Rattle.state.proofs.Ends.{end-take, end-skip, end-sent, end-unsent}
 use Rattle.drains.specs.Drain.{sendingVector}
 use borrow.Author.Needs.{needs}
 use Rattle.drains.proofs.send_vector.Statement.{statement}

@@ -2,7 +2,7 @@ use mathlib.Core.Path.{_≡_, refl, sym, _∙_}
 use native.Mathlib.Omega.{arith}
 use lib.ListN.{length}
 use lib.Seq.{length-take-le}
-use Rattle.lister.specs.Calls.{feed-readies, finish-readies}
+use Rattle.lister.proofs.Calls.{feed-readies, finish-readies}
 use borrow.Author.Needs.{needs}
 use Rattle.listing.proofs.list_all.Statement.{statement}
 use Rattle.listing.proofs.list_all.Tie as tie

@@ -1,5 +1,5 @@
 use borrow.Author.Needs.{needs}
-use Rattle.lemmas.specs.Cases.{cases}
+use Rattle.lemmas.proofs.Cases.{cases}
 use Rattle.packet.proofs.dwords.Statement.{statement}
 use Rattle.packet.proofs.dwords.Tie as tie
 

@@ -1,4 +1,4 @@
-use Rattle.lemmas.specs.Cases.{cases}
+use Rattle.lemmas.proofs.Cases.{cases}
 use Rattle.packet.proofs.enables.Statement.{statement}
 use Rattle.packet.proofs.enables.Tie as tie
 

@@ -2,7 +2,8 @@ use mathlib.Core.Path.{_≡_}
 use Prim.Native.Nat.{_+_, _-_, _*_, _≤_}
 use native.Mathlib.Omega.{arith}
 use lib.ListN.{length, drop}
-use Rattle.lemmas.specs.Gather.{gather, gather-start, gather-turn}
+use Rattle.lemmas.specs.Gather.{gather}
+use Rattle.lemmas.proofs.Gather.{gather-start, gather-turn}
 use Rattle.pages.specs.Pages.{idle, requestsOf, used}
 use borrow.Author.Needs.{needs}
 use Rattle.pages.proofs.used_credits.Statement.{statement}

@@ -1,6 +1,6 @@
 use mathlib.Core.Path.{refl, sym, _∙_}
 use borrow.Author.Tests.{le-leb, lt-leb}
-use Rattle.state.specs.Ends.{end-take, end-skip}
+use Rattle.state.proofs.Ends.{end-take, end-skip}
 use Rattle.receives.specs.Responses.{respondedOn}
 use borrow.Author.Needs.{needs}
 use Rattle.receives.proofs.answer_group.Statement.{statement}

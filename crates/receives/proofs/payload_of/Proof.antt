@@ -1,7 +1,7 @@
 use denote.Ref.{now}
 use mathlib.Core.Path.{sym, _∙_}
 use lib.Seq.{drop-length}
-use Rattle.lemmas.specs.Cases.{take-case, skip-case}
+use Rattle.lemmas.proofs.Cases.{take-case, skip-case}
 use Rattle.receives.specs.Receive.{payloadFor}
 use borrow.Author.Needs.{needs}
 use Rattle.receives.proofs.payload_of.Statement.{statement}

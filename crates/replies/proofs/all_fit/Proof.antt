@@ -4,7 +4,8 @@ use Prim.Native.Nat.{_<_, _+_, _-_, _/_, _≤_}
 use mathlib.Core.Bool.{true}
 use native.Mathlib.Omega.{arith}
 use lib.ListN.{length}
-use Rattle.lemmas.specs.All.{allTo, all-start, all-turn, all-stop}
+use Rattle.lemmas.specs.All.{allTo}
+use Rattle.lemmas.proofs.All.{all-start, all-turn, all-stop}
 use Rattle.tlp.specs.Translations.{translationAt}
 use Rattle.replies.specs.Fits.{fitsAt, allFit}
 use borrow.Author.Needs.{needs}

@@ -1,7 +1,8 @@
 use mathlib.Core.Path.{_≡_}
 use Prim.Native.Nat.{_-_, _≤_}
 use native.Mathlib.Omega.{arith}
-use Rattle.lemmas.specs.Run.{runTo, run-start, run-turn}
+use Rattle.lemmas.specs.Run.{runTo}
+use Rattle.lemmas.proofs.Run.{run-start, run-turn}
 use Rattle.span.specs.Range.{unitsOf}
 use Rattle.replies.specs.Fills.{unitStep, applied}
 use borrow.Author.Needs.{needs}

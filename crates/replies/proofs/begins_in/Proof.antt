@@ -1,5 +1,5 @@
-use Rattle.lemmas.specs.Tests.{sub-leb, past-leb}
-use Rattle.span.specs.Runs.{region-leb}
+use Rattle.lemmas.proofs.Tests.{sub-leb, past-leb}
+use Rattle.span.proofs.Runs.{region-leb}
 use Rattle.replies.specs.Fits.{beginsIn}
 use borrow.Author.Needs.{needs}
 use Rattle.replies.proofs.begins_in.Statement.{statement}

@@ -1,5 +1,5 @@
-use Rattle.span.specs.Runs.{region-mono}
-use Rattle.lemmas.specs.Cases.{take-case, skip-case, cases}
+use Rattle.span.proofs.Runs.{region-mono}
+use Rattle.lemmas.proofs.Cases.{take-case, skip-case, cases}
 use borrow.Author.Tests.{lt-ltb, le-ltb}
 use Rattle.replies.specs.Fills.{covered}
 use borrow.Author.Needs.{needs}

@@ -1,9 +1,9 @@
-use Rattle.lemmas.specs.Tests.{over-ltb}
+use Rattle.lemmas.proofs.Tests.{over-ltb}
 use borrow.Author.Tests.{lt-ltb, le-ltb}
-use Rattle.lemmas.specs.Cases.{take-case, skip-case}
+use Rattle.lemmas.proofs.Cases.{take-case, skip-case}
 use mathlib.Core.Path.{refl}
 use native.Mathlib.Omega.{arith}
-use Rattle.span.specs.Runs.{offset-fits}
+use Rattle.span.proofs.Runs.{offset-fits}
 use Rattle.replies.specs.Fills.{unitStep}
 use borrow.Author.Needs.{needs}
 use Rattle.replies.proofs.cover_at.Statement.{statement}

@@ -1,5 +1,5 @@
 use mathlib.Core.Path.{sym, _∙_}
-use Rattle.lemmas.specs.Cases.{take-case, skip-case}
+use Rattle.lemmas.proofs.Cases.{take-case, skip-case}
 use Rattle.replies.specs.Fills.{unitFilled}
 use borrow.Author.Needs.{needs}
 use Rattle.replies.proofs.fill_unit.Statement.{statement}

@@ -1,5 +1,5 @@
 use native.Mathlib.Omega.{arith}
-use Rattle.lemmas.specs.Cases.{cases}
+use Rattle.lemmas.proofs.Cases.{cases}
 use Rattle.replies.specs.Fits.{firstPart}
 use borrow.Author.Needs.{needs}
 use Rattle.replies.proofs.first_part.Statement.{statement}

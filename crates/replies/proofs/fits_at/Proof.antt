@@ -1,5 +1,5 @@
 use mathlib.Core.Path.{sym, _∙_}
-use Rattle.lemmas.specs.Cases.{and-next, cases}
+use Rattle.lemmas.proofs.Cases.{and-next, cases}
 use Rattle.replies.specs.Fits.{fitsAt}
 use borrow.Author.Needs.{needs}
 use Rattle.replies.proofs.fits_at.Statement.{statement}

@@ -1,4 +1,4 @@
-use Rattle.lemmas.specs.Cases.{cases}
+use Rattle.lemmas.proofs.Cases.{cases}
 use borrow.Author.Needs.{needs}
 use Rattle.replies.proofs.if_fitting.Statement.{statement}
 use Rattle.replies.proofs.if_fitting.Tie as tie

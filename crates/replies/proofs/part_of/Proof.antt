@@ -1,4 +1,4 @@
-use Rattle.lemmas.specs.Cases.{cases}
+use Rattle.lemmas.proofs.Cases.{cases}
 use Rattle.replies.specs.Fits.{partOf}
 use borrow.Author.Needs.{needs}
 use Rattle.replies.proofs.part_of.Statement.{statement}

@@ -1,4 +1,4 @@
-use Rattle.lemmas.specs.Cases.{cases}
+use Rattle.lemmas.proofs.Cases.{cases}
 use borrow.Author.Needs.{needs}
 use Rattle.replies.proofs.place_for.Statement.{statement}
 use Rattle.replies.proofs.place_for.Tie as tie

@@ -1,4 +1,4 @@
-use Rattle.lemmas.specs.Cases.{cases}
+use Rattle.lemmas.proofs.Cases.{cases}
 use Rattle.replies.specs.Fits.{secondPart}
 use Rattle.replies.proofs.second_part.Statement.{statement}
 use Rattle.replies.proofs.second_part.Tie as tie

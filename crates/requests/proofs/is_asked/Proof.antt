@@ -1,6 +1,6 @@
 use mathlib.Core.Path.{sym, _∙_}
 use borrow.Author.Tests.{eq-eqb, ne-eqb}
-use Rattle.lemmas.specs.Cases.{and-next, and-stop}
+use Rattle.lemmas.proofs.Cases.{and-next, and-stop}
 use borrow.Author.Needs.{needs}
 use Rattle.requests.proofs.is_asked.Statement.{statement}
 use Rattle.requests.proofs.is_asked.Tie as tie

@@ -1,5 +1,5 @@
 use mathlib.Core.Path.{refl, sym, _∙_}
-use Rattle.state.specs.Ends.{end-take, end-skip}
+use Rattle.state.proofs.Ends.{end-take, end-skip}
 use Rattle.requests.specs.PageRequests.{requestingOn}
 use borrow.Author.Needs.{needs}
 use Rattle.requests.proofs.request_page.Statement.{statement}

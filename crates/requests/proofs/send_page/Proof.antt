@@ -1,4 +1,4 @@
-use Rattle.state.specs.Ends.{end-sent, end-unsent}
+use Rattle.state.proofs.Ends.{end-sent, end-unsent}
 use borrow.Author.Needs.{needs}
 use Rattle.requests.proofs.send_page.Statement.{statement}
 use Rattle.requests.proofs.send_page.Tie as tie

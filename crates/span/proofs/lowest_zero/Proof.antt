@@ -3,7 +3,7 @@ use Prim.Native.Nat.{_≤_, _-_}
 use native.Mathlib.Omega.{arith}
 use borrow.Author.Tests.{eq-eqb, ne-eqb}
 use Rattle.span.specs.Size.{lowestZero}
-use Rattle.span.specs.Laws.{zero-here, zero-step, zero-end}
+use Rattle.span.proofs.Laws.{zero-here, zero-step, zero-end}
 use borrow.Author.Needs.{needs}
 use Rattle.span.proofs.lowest_zero.Statement.{statement}
 use Rattle.span.proofs.lowest_zero.Tie as tie

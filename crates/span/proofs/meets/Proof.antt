@@ -1,4 +1,4 @@
-use Rattle.lemmas.specs.Cases.{cases}
+use Rattle.lemmas.proofs.Cases.{cases}
 use Rattle.span.proofs.meets.Statement.{statement}
 use Rattle.span.proofs.meets.Tie as tie
 

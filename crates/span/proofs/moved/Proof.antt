@@ -1,6 +1,6 @@
 use native.Mathlib.Omega.{arith}
 use Rattle.span.specs.Range.{movedTo}
-use Rattle.span.specs.Runs.{region-first, moved-lt}
+use Rattle.span.proofs.Runs.{region-first, moved-lt}
 use borrow.Author.Needs.{needs}
 use Rattle.span.proofs.moved.Statement.{statement}
 use Rattle.span.proofs.moved.Tie as tie

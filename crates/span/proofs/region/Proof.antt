@@ -1,7 +1,7 @@
 use native.Mathlib.Omega.{arith}
 use native.Mathlib.Nat.{min-eq-left, min-eq-right, le-of-lt, div-eq-of-lt}
 use lib.Pow.{pow-pos}
-use Rattle.lemmas.specs.Powers.{one-shl, region-lt}
+use Rattle.lemmas.proofs.Powers.{one-shl, region-lt}
 use Rattle.span.specs.Range.{regionOf}
 use borrow.Author.Needs.{needs}
 use Rattle.span.proofs.region.Statement.{statement}

@@ -1,6 +1,6 @@
 use native.Mathlib.Omega.{arith}
 use Rattle.span.specs.Range.{runOf}
-use Rattle.span.specs.Runs.{units-fit}
+use Rattle.span.proofs.Runs.{units-fit}
 use borrow.Author.Needs.{needs}
 use Rattle.span.proofs.run.Statement.{statement}
 use Rattle.span.proofs.run.Tie as tie

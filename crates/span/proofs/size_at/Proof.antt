@@ -1,4 +1,4 @@
-use Rattle.lemmas.specs.Cases.{cases}
+use Rattle.lemmas.proofs.Cases.{cases}
 use borrow.Author.Needs.{needs}
 use Rattle.span.proofs.size_at.Statement.{statement}
 use Rattle.span.proofs.size_at.Tie as tie

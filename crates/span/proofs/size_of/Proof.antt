@@ -1,6 +1,6 @@
 use mathlib.Core.Path.{sym}
 use Rattle.span.specs.Size.{sizeOf}
-use Rattle.span.specs.Laws.{plain-size}
+use Rattle.span.proofs.Laws.{plain-size}
 use borrow.Author.Needs.{needs}
 use Rattle.span.proofs.size_of.Statement.{statement}
 use Rattle.span.proofs.size_of.Tie as tie

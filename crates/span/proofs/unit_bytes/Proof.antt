@@ -2,7 +2,7 @@ use native.Mathlib.Omega.{arith}
 use lib.Pow.{pow-pos, pow-mono}
 use Prim.Native.Nat.{_+_, _%_, _<_, _≤_}
 use mathlib.Core.Path.{refl}
-use Rattle.lemmas.specs.Powers.{one-shl}
+use Rattle.lemmas.proofs.Powers.{one-shl}
 use borrow.Author.Needs.{needs}
 use Rattle.span.proofs.unit_bytes.Statement.{statement}
 use Rattle.span.proofs.unit_bytes.Tie as tie

@@ -1,4 +1,4 @@
-use Rattle.lemmas.specs.Cases.{cases}
+use Rattle.lemmas.proofs.Cases.{cases}
 use Rattle.state.proofs.is_granted.Statement.{statement}
 use Rattle.state.proofs.is_granted.Tie as tie
 

@@ -1,4 +1,4 @@
-use Rattle.state.specs.Ends.{end-take, end-skip}
+use Rattle.state.proofs.Ends.{end-take, end-skip}
 use mathlib.Core.Path.{refl, sym, _∙_}
 use borrow.Author.Tests.{lt-leb, le-leb}
 use Rattle.state.specs.Switches.{resetting}

@@ -5,7 +5,8 @@ use Prim.Native.Nat.{_+_, _-_, _≤_}
 use native.Mathlib.Omega.{arith}
 use lib.Bits.{bitOr}
 use lib.ListN.{length, drop}
-use Rattle.lemmas.specs.Gather.{gather, gather-start, gather-turn}
+use Rattle.lemmas.specs.Gather.{gather}
+use Rattle.lemmas.proofs.Gather.{gather-start, gather-turn}
 use borrow.Author.Needs.{needs}
 use Rattle.tags.proofs.held_back.Statement.{statement}
 use Rattle.tags.proofs.held_back.Tie as tie

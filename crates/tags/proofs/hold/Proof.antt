@@ -1,4 +1,4 @@
-use Rattle.lemmas.specs.Cases.{cases}
+use Rattle.lemmas.proofs.Cases.{cases}
 use Rattle.tags.specs.Tags.{placed}
 use borrow.Author.Needs.{needs}
 use Rattle.tags.proofs.hold.Statement.{statement}

@@ -3,7 +3,8 @@ use Prim.Native.Nat.{_+_, _-_, _≤_}
 use native.Mathlib.Omega.{arith}
 use lib.ListN.{length, drop}
 use borrow.Author.Tests.{lt-ltb, le-ltb}
-use Rattle.lemmas.specs.First.{firstAt, first-start, first-step, first-here, first-end}
+use Rattle.lemmas.specs.First.{firstAt}
+use Rattle.lemmas.proofs.First.{first-start, first-step, first-here, first-end}
 use Rattle.tags.specs.Tags.{freeAt, freeTag}
 use borrow.Author.Needs.{needs}
 use Rattle.tags.proofs.lowest_free.Statement.{statement}

@@ -1,12 +1,12 @@
 use Rattle.tags.specs.declared.Open.the-variants.{Free}
 use mathlib.Core.Logic.{⊎-elim}
-use Rattle.lemmas.specs.Cases.{take-case, skip-case}
+use Rattle.lemmas.proofs.Cases.{take-case, skip-case}
 use Rattle.tags.specs.Tags.{snoopedAt, snooped, holding}
 use mathlib.Core.Path.{_≡_, refl, sym, _∙_}
 use Prim.Native.Nat.{_-_, _<_, _≤_}
 use native.Mathlib.Omega.{arith}
 use lib.ListN.{length}
-use Rattle.lemmas.specs.Maps.{mapTo, map-turn, map-keep, map-end}
+use Rattle.lemmas.proofs.Maps.{mapTo, map-turn, map-keep, map-end}
 use borrow.Author.Needs.{needs}
 use Rattle.tags.proofs.snoop.Statement.{statement}
 use Rattle.tags.proofs.snoop.Tie as tie

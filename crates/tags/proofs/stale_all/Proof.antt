@@ -3,8 +3,8 @@ use mathlib.Core.Logic.{⊎-elim}
 use Prim.Native.Nat.{_-_, _<_, _≤_}
 use native.Mathlib.Omega.{arith}
 use lib.ListN.{length}
-use Rattle.lemmas.specs.Maps.{mapTo, map-turn, map-keep, map-end}
-use Rattle.lemmas.specs.Cases.{take-case, skip-case}
+use Rattle.lemmas.proofs.Maps.{mapTo, map-turn, map-keep, map-end}
+use Rattle.lemmas.proofs.Cases.{take-case, skip-case}
 use Rattle.tags.specs.declared.Open.the-variants.{Free}
 use Rattle.tags.specs.Tags.{staledAt, allStaled, holding}
 use borrow.Author.Needs.{needs}

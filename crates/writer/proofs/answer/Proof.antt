@@ -1,4 +1,4 @@
-use Rattle.lemmas.specs.Cases.{cases}
+use Rattle.lemmas.proofs.Cases.{cases}
 use Rattle.packet.specs.Writing.{writing}
 use borrow.Author.Needs.{needs}
 use Rattle.writer.proofs.answer.Statement.{statement}

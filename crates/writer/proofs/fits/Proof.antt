@@ -1,4 +1,4 @@
-use Rattle.lemmas.specs.Cases.{cases}
+use Rattle.lemmas.proofs.Cases.{cases}
 use Rattle.writer.proofs.fits.Statement.{statement}
 use Rattle.writer.proofs.fits.Tie as tie
 

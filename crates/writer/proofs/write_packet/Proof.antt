@@ -1,5 +1,5 @@
 use mathlib.Core.Path.{sym, _∙_, ap}
-use Rattle.packet.specs.Laws.{accepted}
+use Rattle.packet.proofs.Laws.{accepted}
 use Rattle.packet.specs.Writing.{paperWritten}
 use borrow.Author.Needs.{needs}
 use Rattle.writer.proofs.write_packet.Statement.{statement}

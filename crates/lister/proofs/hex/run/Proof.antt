@@ -3,7 +3,7 @@ use Prim.Native.Nat.{_+_, _-_, _*_, _≤_, _<_}
 use native.Mathlib.Omega.{arith}
 use lib.ListN.{length, getD, length-set}
 use borrow.Author.Needs.{needs}
-use Rattle.text.specs.Pairs.{Run, none-spelled, turn, no-high, no-low}
+use Rattle.text.proofs.Pairs.{Run, none-spelled, turn, no-high, no-low}
 use Rattle.lister.proofs.hex.run.Statement.{statement}
 use Rattle.lister.proofs.hex.run.Tie as tie
 

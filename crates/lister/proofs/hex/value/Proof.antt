@@ -3,7 +3,7 @@ use mathlib.Core.List.{List}
 use Prim.Native.Nat.{ℕ}
 use native.Mathlib.Omega.{arith}
 use lib.ListN.{getD}
-use Rattle.text.specs.Values.{value-of}
+use Rattle.text.proofs.Values.{value-of}
 use borrow.Author.Needs.{needs}
 use Rattle.lister.proofs.hex.value.Statement.{statement}
 use Rattle.lister.proofs.hex.value.Tie as tie

@@ -4,10 +4,10 @@ use Prim.Native.Nat.{_≤_}
 use native.Mathlib.Omega.{arith}
 use lib.ListN.{length, take}
 use lib.Seq.{length-take-le}
-use Rattle.rows.specs.Laying.{row-start}
+use Rattle.rows.proofs.Laying.{row-start}
 use Rattle.lister.specs.Line.{lineText}
 use Rattle.lister.proofs.Holds.{held-cut, line-out}
-use Rattle.lister.specs.Blocks.{line-short}
+use Rattle.lister.proofs.Blocks.{line-short}
 use borrow.Author.Needs.{needs}
 use Rattle.lister.proofs.lines.held_line.Statement.{statement}
 use Rattle.lister.proofs.lines.held_line.Tie as tie

@@ -7,7 +7,7 @@ use lib.Seq.{length-take-le}
 use Rattle.lister.specs.Line.{lineText}
 use Rattle.lister.specs.Stream.{printed}
 use Rattle.lister.specs.Pieces.{noFeed}
-use Rattle.rows.specs.Laying.{nothing-laid, then}
+use Rattle.rows.proofs.Laying.{nothing-laid, then}
 use Rattle.lister.proofs.Feeds.{none-after, number-none, start-none, printed-none, ended-early, to-end, number-parts, start-parts, printed-parts}
 use Rattle.lister.proofs.Holds.{kept-cut}
 use borrow.Author.Needs.{needs}

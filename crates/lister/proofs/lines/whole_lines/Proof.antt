@@ -10,10 +10,10 @@ use Rattle.lister.specs.Line.{lineText}
 use Rattle.rows.specs.Places.{Laid}
 use Rattle.lister.specs.Stream.{printed, numberAfter, startAfter}
 use Rattle.lister.specs.Pieces.{noFeed}
-use Rattle.rows.specs.Laying.{nothing-laid, then, row-after, laid-length}
+use Rattle.rows.proofs.Laying.{nothing-laid, then, row-after, laid-length}
 use Rattle.lister.proofs.Spelled.{run-of-line}
 use Rattle.lister.proofs.Feeds.{WholeLines, hex-no-feed, all-taken, hex-before, one-more, printed-more, number-end, start-end, printed-end, to-end, ended-early, none-after}
-use Rattle.lister.specs.Blocks.{line-short}
+use Rattle.lister.proofs.Blocks.{line-short}
 use Rattle.lister.proofs.lines.whole_lines.Statement.{statement}
 use Rattle.lister.proofs.lines.whole_lines.Tie as tie
 

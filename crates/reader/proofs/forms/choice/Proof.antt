@@ -1,4 +1,4 @@
-use Rattle.lemmas.specs.Cases.{cases}
+use Rattle.lemmas.proofs.Cases.{cases}
 use Rattle.packet.specs.Forms.{choose}
 use Rattle.reader.proofs.forms.choice.Statement.{statement}
 use Rattle.reader.proofs.forms.choice.Tie as tie

@@ -1,4 +1,4 @@
-use Rattle.lemmas.specs.Cases.{cases}
+use Rattle.lemmas.proofs.Cases.{cases}
 use Rattle.reader.proofs.forms.is_shaped_long.Statement.{statement}
 use Rattle.reader.proofs.forms.is_shaped_long.Tie as tie
 

@@ -1,4 +1,4 @@
-use Rattle.lemmas.specs.Cases.{cases}
+use Rattle.lemmas.proofs.Cases.{cases}
 use borrow.Author.Needs.{needs}
 use Rattle.reader.proofs.nums.body.Statement.{statement}
 use Rattle.reader.proofs.nums.body.Tie as tie

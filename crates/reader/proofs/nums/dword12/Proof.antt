@@ -1,4 +1,4 @@
-use Rattle.lemmas.specs.Cases.{cases}
+use Rattle.lemmas.proofs.Cases.{cases}
 use borrow.Author.Needs.{needs}
 use Rattle.reader.proofs.nums.dword12.Statement.{statement}
 use Rattle.reader.proofs.nums.dword12.Tie as tie

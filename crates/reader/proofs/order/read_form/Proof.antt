@@ -1,4 +1,4 @@
-use Rattle.lemmas.specs.Cases.{cases}
+use Rattle.lemmas.proofs.Cases.{cases}
 use Rattle.packet.specs.Reading.{readForm}
 use borrow.Author.Needs.{needs}
 use Rattle.reader.proofs.order.read_form.Statement.{statement}

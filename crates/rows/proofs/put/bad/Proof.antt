@@ -3,7 +3,7 @@ use Prim.Native.Nat.{_≤_}
 use native.Mathlib.Omega.{arith}
 use lib.ListN.{length}
 use Rattle.text.specs.Digits.{decimal}
-use Rattle.rows.specs.Laying.{then}
+use Rattle.rows.proofs.Laying.{then}
 use borrow.Author.Needs.{needs}
 use Rattle.rows.proofs.put.bad.Statement.{statement}
 use Rattle.rows.proofs.put.bad.Tie as tie

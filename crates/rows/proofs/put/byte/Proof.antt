@@ -1,4 +1,4 @@
-use Rattle.rows.specs.Laying.{lay-byte}
+use Rattle.rows.proofs.Laying.{lay-byte}
 use borrow.Author.Needs.{needs}
 use Rattle.rows.proofs.put.byte.Statement.{statement}
 use Rattle.rows.proofs.put.byte.Tie as tie

@@ -4,7 +4,7 @@ use Prim.Native.Nat.{_≤_}
 use native.Mathlib.Omega.{arith}
 use lib.ListN.{length}
 use borrow.Author.Tests.{eq-eqb, ne-eqb}
-use Rattle.rows.specs.Laying.{then}
+use Rattle.rows.proofs.Laying.{then}
 use borrow.Author.Needs.{needs}
 use Rattle.rows.proofs.put.kind.Statement.{statement}
 use Rattle.rows.proofs.put.kind.Tie as tie

@@ -4,7 +4,7 @@ use native.Mathlib.Omega.{arith}
 use lib.ListN.{length}
 use Rattle.text.specs.Digits.{hex4}
 use Rattle.rows.specs.Rows.{kindText, labelText}
-use Rattle.rows.specs.Laying.{then-byte}
+use Rattle.rows.proofs.Laying.{then-byte}
 use borrow.Author.Needs.{needs}
 use Rattle.rows.proofs.put.packet.Statement.{statement}
 use Rattle.rows.proofs.put.packet.Tie as tie

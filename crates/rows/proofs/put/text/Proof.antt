@@ -3,7 +3,7 @@ use Prim.Native.Nat.{_-_, _≤_}
 use native.Mathlib.Omega.{arith}
 use lib.ListN.{length, length-set}
 use lib.Seq.{paste, paste-zero}
-use Rattle.rows.specs.Laying.{copied, all-copied}
+use Rattle.rows.proofs.Laying.{copied, all-copied}
 use Rattle.rows.proofs.put.text.Statement.{statement}
 use Rattle.rows.proofs.put.text.Tie as tie
 

@@ -1,6 +1,6 @@
 use native.Mathlib.Omega.{arith}
 use Prim.Native.Nat.{_%_, _<_}
-use Rattle.lemmas.specs.Powers.{one-shl}
+use Rattle.lemmas.proofs.Powers.{one-shl}
 use Rattle.tags.specs.Itags.{joined}
 use borrow.Author.Needs.{needs}
 use Rattle.tags.proofs.itags.with.Statement.{statement}

@@ -1,4 +1,4 @@
-use Rattle.lemmas.specs.Cases.{cases}
+use Rattle.lemmas.proofs.Cases.{cases}
 use Rattle.writer.proofs.frames.fetch_form.Statement.{statement}
 use Rattle.writer.proofs.frames.fetch_form.Tie as tie
 

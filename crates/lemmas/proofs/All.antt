@@ -1,0 +1,28 @@
+-- A loop that goes up and stops at the first number that fails a test.
+use mathlib.Core.Path.{_≡_, refl}
+use mathlib.Core.Bool.{Bool, true, false}
+use mathlib.Core.Logic.{⊎-elim}
+use Prim.Native.Nat.{ℕ, zero, suc, _+_, _<_}
+use native.Mathlib.Nat.{not-suc-le-zero, le-of-suc-le-suc, eq-or-lt-of-le}
+use native.Mathlib.Numerals.{add-one}
+use Rattle.lemmas.proofs.Cases.{and-false}
+use Rattle.lemmas.specs.All.{allTo}
+
+-- A loop that goes up and stops at the first number that fails: before it, in a turn, where it stops
+module _ (p : ℕ → Bool) where
+  pub all-start : allTo p 0 ≡ true
+  unfolding allTo
+  all-start = refl
+
+  pub all-turn : (k : ℕ) → allTo p k ≡ true → p k ≡ true → allTo p (k + 1) ≡ true
+  unfolding allTo
+  all-turn k inv e = rw (add-one, inv, e)
+
+  pub all-stop : (k n : ℕ) → k < n → p k ≡ false → allTo p n ≡ false
+  unfolding allTo
+  all-stop k zero h e = absurd (not-suc-le-zero h)
+  all-stop k (suc n) h e =
+      ⊎-elim
+      (λ (s : k ≡ n). rw (← s, e) (and-false (allTo p k)))
+      (λ (l : k < n). rw (all-stop k n l e))
+      (eq-or-lt-of-le (le-of-suc-le-suc h))

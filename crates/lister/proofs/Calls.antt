@@ -1,0 +1,31 @@
+-- What a caller needs of a call: that it stays within what was lent, and that the next call finds what the last one kept.
+use Prim.Native.Nat.{ℕ, _≤_, min}
+use mathlib.Core.Path.{_≡_, refl, ap}
+use mathlib.Core.Bool.{cond}
+use mathlib.Core.List.{List, _++_}
+use native.Mathlib.Nat.{min-le-left, min-eq-left}
+use lib.Dec.{ltb}
+use lib.ListN.{length, take, drop, length-take}
+use lib.Seq.{take-at}
+use Rattle.rows.proofs.Laying.{start-within, row-within}
+use Rattle.lister.specs.declared.Progress.{Progress}
+use Rattle.lister.specs.declared.Fed.{Fed}
+use Rattle.lister.specs.Stream.{printed, lastText, cut}
+use Rattle.lister.specs.Pieces.{startIn, takes, fed, finished}
+
+module _ (from : Progress) (hold block out : List ℕ) (r : Fed) (h o : List ℕ) (e : (r, h, o) ≡ fed from hold block out) where
+  pub feed-readies : length o ≡ length out → r .ready ≤ length out
+  unfolding fed
+  feed-readies l =
+      start-within (printed (from .number) (startIn (from .held) hold) (take (cond (ltb (length hold) 289) 0 (takes (from .number) (length block) (length out))) block)) out (r .ready) o
+      (ap (λ (x : Fed × List ℕ × List ℕ). (x .0 .ready, x .2)) e) l
+
+pub finish-readies : (from : Progress) (hold out : List ℕ) (n : ℕ) (o : List ℕ) → (n, o) ≡ finished from hold out → length o ≡ length out → n ≤ length out
+unfolding finished
+finish-readies from hold out n o e l = row-within (lastText (from .number) (startIn (from .held) hold)) out n o e l
+
+-- what is held after a piece is the start of the line that the piece left
+pub start-kept : (s hold : List ℕ) → startIn (length (cut s)) (cut s ++ drop (length (cut s)) hold) ≡ cut s
+start-kept s hold =
+    let few : length (cut s) ≤ 289 = rw length-take (min-le-left 289 (length s)) in
+    rw (min-eq-left few) (take-at (cut s) (drop (length (cut s)) hold) (length (cut s)) refl)

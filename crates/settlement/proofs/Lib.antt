@@ -1,0 +1,3 @@
+pub mod Packets
+pub mod Calls
+pub mod Listing

@@ -1,0 +1,73 @@
+-- The packet layer: two outcomes that the contract of an operation allows are equal.
+use mathlib.Core.Path.{_≡_, sym, _∙_}
+use contract.Lifetimes.{Lfts}
+use denote.Ref.{now}
+use Rattle.packet.proofs.Told.{read-told, written-told}
+use Rattle.reader.proofs.read_packet.Reads as read-packet
+use Rattle.reader.proofs.payload.Reads as payload
+use Rattle.reader.proofs.part_from.Reads as part-from
+use Rattle.writer.proofs.write_packet.Reads as write-packet
+use Rattle.packet.proofs.number.Reads as number
+use Rattle.tlp.proofs.translation_at.Reads as translation-at
+use Rattle.span.proofs.size_of.Reads as size-of
+use Rattle.span.proofs.translation_of.Reads as translation-of
+use Rattle.span.proofs.unit_exponent.Reads as unit-exponent
+use Rattle.span.proofs.unit_bytes.Reads as unit-bytes
+use Rattle.span.proofs.region.Reads as region
+use Rattle.span.proofs.region_number.Reads as region-number
+use Rattle.span.proofs.rounded.Reads as rounded
+use Rattle.span.proofs.reach.Reads as reach
+use Rattle.span.proofs.run.Reads as run
+use Rattle.span.proofs.moved.Reads as moved
+use Rattle.span.proofs.meets.Reads as meets
+
+pub read-packet-settled : (κs : Lfts 1) (args : _) (x y : _) (e g : _) → read-packet.Learnt κs args x e → read-packet.Learnt κs args y g → x ≡ y
+read-packet-settled κs args x y e g p q = read-told x y (p ∙ sym q)
+
+pub payload-settled : (κs : Lfts 1) (args : _) (x y : _) (e g : _) → payload.Learnt κs args x e → payload.Learnt κs args y g → now x ≡ now y
+payload-settled κs args x y e g p q = p ∙ sym q
+
+pub part-from-settled : (κs : Lfts 1) (args : _) (x y : _) (e g : _) → part-from.Learnt κs args x e → part-from.Learnt κs args y g → now x ≡ now y
+part-from-settled κs args x y e g p q = p ∙ sym q
+
+pub write-packet-settled : (κs : Lfts 2) (args : _) (x y : _) (e g : _) → write-packet.Learnt κs args x e → write-packet.Learnt κs args y g → (x ≡ y) × (now (e .1 .1 .0) ≡ now (g .1 .1 .0))
+write-packet-settled κs args x y e g p q = (written-told x y (p .0 ∙ sym (q .0)), p .1 ∙ sym (q .1))
+
+pub number-settled : (κs : Lfts 0) (args : _) (x y : _) (e g : _) → number.Learnt κs args x e → number.Learnt κs args y g → x ≡ y
+number-settled κs args x y e g p q = p ∙ sym q
+
+pub translation-at-settled : (κs : Lfts 1) (args : _) (x y : _) (e g : _) → translation-at.Learnt κs args x e → translation-at.Learnt κs args y g → x ≡ y
+translation-at-settled κs args x y e g p q = p ∙ sym q
+
+pub size-of-settled : (κs : Lfts 0) (args : _) (x y : _) (e g : _) → size-of.Learnt κs args x e → size-of.Learnt κs args y g → x ≡ y
+size-of-settled κs args x y e g p q = p ∙ sym q
+
+pub translation-of-settled : (κs : Lfts 0) (args : _) (x y : _) (e g : _) → translation-of.Learnt κs args x e → translation-of.Learnt κs args y g → x ≡ y
+translation-of-settled κs args x y e g p q = p ∙ sym q
+
+pub unit-exponent-settled : (κs : Lfts 0) (args : _) (x y : _) (e g : _) → unit-exponent.Learnt κs args x e → unit-exponent.Learnt κs args y g → x ≡ y
+unit-exponent-settled κs args x y e g p q = p ∙ sym q
+
+pub unit-bytes-settled : (κs : Lfts 0) (args : _) (x y : _) (e g : _) → unit-bytes.Learnt κs args x e → unit-bytes.Learnt κs args y g → x ≡ y
+unit-bytes-settled κs args x y e g p q = p .0 ∙ sym (q .0)
+
+pub region-settled : (κs : Lfts 0) (args : _) (x y : _) (e g : _) → region.Learnt κs args x e → region.Learnt κs args y g → x ≡ y
+region-settled κs args x y e g p q = p ∙ sym q
+
+pub region-number-settled : (κs : Lfts 0) (args : _) (x y : _) (e g : _) → region-number.Learnt κs args x e → region-number.Learnt κs args y g → x ≡ y
+region-number-settled κs args x y e g p q = p ∙ sym q
+
+pub rounded-settled : (κs : Lfts 0) (args : _) (x y : _) (e g : _) → rounded.Learnt κs args x e → rounded.Learnt κs args y g → x ≡ y
+rounded-settled κs args x y e g p q = p ∙ sym q
+
+pub reach-settled : (κs : Lfts 0) (args : _) (x y : _) (e g : _) → reach.Learnt κs args x e → reach.Learnt κs args y g → x ≡ y
+reach-settled κs args x y e g p q = p ∙ sym q
+
+pub run-settled : (κs : Lfts 0) (args : _) (x y : _) (e g : _) → run.Learnt κs args x e → run.Learnt κs args y g → x ≡ y
+run-settled κs args x y e g p q = p ∙ sym q
+
+pub moved-settled : (κs : Lfts 0) (args : _) (x y : _) (e g : _) → moved.Learnt κs args x e → moved.Learnt κs args y g → x ≡ y
+moved-settled κs args x y e g p q = p ∙ sym q
+
+pub meets-settled : (κs : Lfts 0) (args : _) (x y : _) (e g : _) → meets.Learnt κs args x e → meets.Learnt κs args y g → x ≡ y
+meets-settled κs args x y e g p q = p ∙ sym q

@@ -1,0 +1,320 @@
+-- A frame and the bytes that spell it, once for all kinds.
+use Prim.Native.Nat.{ℕ, zero, suc, _+_, _*_, _/_, _%_, _<_, _≤_}
+use native.Mathlib.Omega.{arith}
+use native.Mathlib.Nat.{mod-lt, not-suc-le-zero, le-of-suc-le-suc}
+use mathlib.Core.Path.{_≡_, refl, sym, ap, _∙_}
+use mathlib.Core.Bool.{Bool, true, false, cond}
+use mathlib.Core.List.{List, [], _∷_, _++_}
+use lib.ListN.{length, take}
+use lib.Dec.{ltb, lit≤}
+use borrow.Author.Tests.{le-ltb}
+use Rattle.packet.specs.declared.Frame.{Frame}
+use Rattle.packet.specs.declared.Form.{Form}
+use Rattle.packet.specs.declared.Form.the-variants.{Mrd32, Mrd64, Mwr32, Mwr64, CplNoData, CplData, InvReq, InvCpl, PageReq, PrgResp}
+use Rattle.packet.specs.Frames.{byte, num16At, num32At, num64At, frameOf, four, spelled}
+use Rattle.packet.specs.Forms.{fixedOf}
+use Rattle.packet.specs.Kinds.{bodyIn, shaped}
+use Rattle.packet.specs.Reading.{readForm}
+use Rattle.tlp.specs.Frames.{Bytes}
+
+-- each field of a frame within the bits that it has in the bytes
+pub record Sound (f : Frame) : Type 0 where
+  pub byte0 : f .byte0 < 256
+  pub tc : f .tc < 8
+  pub marks : f .marks < 4
+  pub at : f .at < 4
+  pub words : f .words < 1024
+  pub sender : f .sender < 65536
+  pub byte6 : f .byte6 < 256
+  pub byte7 : f .byte7 < 256
+  pub dword8 : f .dword8 < 4294967296
+  pub dword12 : f .dword12 < 4294967296
+  pub body : f .body < 18446744073709551616
+
+-- a frame as far as its first n bytes tell it
+abbrev pub cut : ℕ → Frame → Frame
+cut n f =
+    record {
+      byte0 = f .byte0;
+      tc = f .tc;
+      marks = f .marks;
+      at = f .at;
+      words = f .words;
+      sender = f .sender;
+      byte6 = f .byte6;
+      byte7 = f .byte7;
+      dword8 = f .dword8;
+      dword12 = cond (ltb n 16) 0 (f .dword12);
+      body = cond (ltb n 24) 0 (f .body);
+    }
+
+-- what stands after the bytes that hold fields is not read
+pub read-cut : (m : Form) (f : Frame) (n : ℕ) → readForm m (cut (fixedOf m) f) n ≡ readForm m f n
+unfolding readForm bodyIn shaped
+read-cut Mrd32 f n = refl
+read-cut Mrd64 f n = refl
+read-cut Mwr32 f n = refl
+read-cut Mwr64 f n = refl
+read-cut CplNoData f n = refl
+read-cut CplData f n = refl
+read-cut InvReq f n = refl
+read-cut InvCpl f n = refl
+read-cut PageReq f n = refl
+read-cut PrgResp f n = refl
+
+-- the fields stand in 12, 16 or 24 bytes
+by-fixed : (P : ℕ → Type 0) → P 12 → P 16 → P 24 → (m : Form) → P (fixedOf m)
+by-fixed P a b c Mrd32 = a
+by-fixed P a b c Mrd64 = b
+by-fixed P a b c Mwr32 = a
+by-fixed P a b c Mwr64 = b
+by-fixed P a b c CplNoData = a
+by-fixed P a b c CplData = a
+by-fixed P a b c InvReq = c
+by-fixed P a b c InvCpl = b
+by-fixed P a b c PageReq = b
+by-fixed P a b c PrgResp = b
+
+-- ---- from a frame to bytes and back
+
+-- four bytes spell their number
+abbrev joined : ℕ → ℕ → ℕ → ℕ → ℕ
+joined a b c d = (a * 256 + b) * 65536 + (c * 256 + d)
+
+four-back : (n : ℕ) → n < 4294967296 → joined (n / 16777216 % 256) (n / 65536 % 256) (n / 256 % 256) (n % 256) ≡ n
+four-back n h =
+    let e : n / 16777216 % 256 ≡ n / 16777216 = omega arith in
+    rw e (omega arith)
+
+byte2-back : (a w : ℕ) → a < 4 → w < 1024 →
+    ((a % 4 * 4 + w / 256 % 4) / 64 ≡ 0)
+    × ((a % 4 * 4 + w / 256 % 4) / 4 % 4 ≡ a)
+    × ((a % 4 * 4 + w / 256 % 4) % 4 * 256 + w % 256 ≡ w)
+byte2-back a w ha hw = (omega arith, omega arith, omega arith)
+
+tc-back : (t : ℕ) → t < 8 → t % 8 * 16 / 16 % 8 ≡ t
+tc-back t h = omega arith
+
+two-back : (n : ℕ) → n < 65536 → n / 256 % 256 * 256 + n % 256 ≡ n
+two-back n h = omega arith
+
+pub halves : (n : ℕ) → n / 4294967296 * 4294967296 + n % 4294967296 ≡ n
+halves n = omega arith
+
+-- a frame with other fields from byte 12 on
+abbrev ending : Frame → ℕ → ℕ → Frame
+ending f d b =
+    record {
+      byte0 = f .byte0;
+      tc = f .tc;
+      marks = f .marks;
+      at = f .at;
+      words = f .words;
+      sender = f .sender;
+      byte6 = f .byte6;
+      byte7 = f .byte7;
+      dword8 = f .dword8;
+      dword12 = d;
+      body = b;
+    }
+
+module _ (f : Frame) (s : Sound f) (z : f .marks ≡ 0) where
+  -- what the first 12 bytes tell, whatever follows them
+  first : (rest : List ℕ) →
+      frameOf (take 12 (spelled f) ++ rest)
+      ≡ ending f (frameOf (take 12 (spelled f) ++ rest) .dword12) (frameOf (take 12 (spelled f) ++ rest) .body)
+  unfolding frameOf
+  first rest =
+      let b = byte2-back (f .at) (f .words) (s .at) (s .words) in
+      simp (tc-back (f .tc) (s .tc), b .0, b .1, b .2, two-back (f .sender) (s .sender), four-back (f .dword8) (s .dword8), z)
+
+  abbrev Back : ℕ → List ℕ → Type 0
+  Back n pay = cut n (frameOf (take n (spelled f) ++ pay)) ≡ cut n f
+
+  back12 : (pay : List ℕ) → Back 12 pay
+  back12 pay = ap (cut 12) (first pay)
+
+  back16 : (pay : List ℕ) → Back 16 pay
+  unfolding frameOf
+  back16 pay =
+      let rest = four (f .dword12) ++ pay in
+      let h : 16 ≤ length (take 12 (spelled f) ++ rest) = omega arith in
+      ap (cut 16) (first rest) ∙ simp (le-ltb (length (take 12 (spelled f) ++ rest)) 16 h, four-back (f .dword12) (s .dword12))
+
+  back24 : (pay : List ℕ) → Back 24 pay
+  unfolding frameOf
+  back24 pay =
+      let hi : f .body / 4294967296 < 4294967296 = omega (arith, s .body) in
+      let lo : f .body % 4294967296 < 4294967296 = omega arith in
+      let rest = four (f .dword12) ++ four (f .body / 4294967296) ++ four (f .body % 4294967296) ++ pay in
+      let n = length (take 12 (spelled f) ++ rest) in
+      let h : 24 ≤ n = omega arith in
+      let k : 16 ≤ n = omega arith in
+      ap (cut 24) (first rest)
+      ∙ simp (
+        le-ltb n 16 k,
+        le-ltb n 24 h,
+        four-back (f .dword12) (s .dword12),
+        four-back (f .body / 4294967296) hi,
+        four-back (f .body % 4294967296) lo,
+        halves (f .body),
+      )
+
+  pub spelled-back : (m : Form) (pay : List ℕ) → Back (fixedOf m) pay
+  spelled-back m pay = by-fixed (λ (n : ℕ). Back n pay) (back12 pay) (back16 pay) (back24 pay) m
+
+-- so many bytes stand before the payload
+pub fixed-length : (m : Form) (f : Frame) → length (take (fixedOf m) (spelled f)) ≡ fixedOf m
+fixed-length m f = by-fixed (λ (n : ℕ). length (take n (spelled f)) ≡ n) refl refl refl m
+
+pub fixed-low : (m : Form) → 12 ≤ fixedOf m
+fixed-low m = by-fixed (λ (n : ℕ). 12 ≤ n) (lit≤ tt) (lit≤ tt) (lit≤ tt) m
+
+-- ---- from bytes to a frame and back
+
+pub num16-lt : (b : List ℕ) → Bytes b → (i : ℕ) → num16At b i < 65536
+num16-lt b h i = let p = h i in let q = h (i + 1) in omega arith
+
+pub num32-lt : (b : List ℕ) → Bytes b → (i : ℕ) → num32At b i < 4294967296
+num32-lt b h i = let p = num16-lt b h i in let q = num16-lt b h (i + 2) in omega arith
+
+pub num64-lt : (b : List ℕ) → Bytes b → (i : ℕ) → num64At b i < 18446744073709551616
+num64-lt b h i = let p = num32-lt b h i in let q = num32-lt b h (i + 4) in omega arith
+
+-- a field that may be missing
+missing-lt : (t : Bool) (x n : ℕ) → 0 < n → x < n → cond t 0 x < n
+missing-lt true x n z h = z
+missing-lt false x n z h = h
+
+words-lt : (x y : ℕ) → y < 256 → x % 4 * 256 + y < 1024
+words-lt x y h = omega arith
+
+marks-lt : (x : ℕ) → x < 256 → x / 64 < 4
+marks-lt x h = omega arith
+
+pub frame-sound : (b : List ℕ) → Bytes b → Sound (frameOf b)
+unfolding frameOf
+frame-sound b h =
+    record {
+      byte0 = h 0;
+      tc = mod-lt (byte b 1 / 16) (lit≤ tt);
+      marks = marks-lt (byte b 2) (h 2);
+      at = mod-lt (byte b 2 / 4) (lit≤ tt);
+      words = words-lt (byte b 2) (byte b 3) (h 3);
+      sender = num16-lt b h 4;
+      byte6 = h 6;
+      byte7 = h 7;
+      dword8 = num32-lt b h 8;
+      dword12 = missing-lt (ltb (length b) 16) (num32At b 12) 4294967296 (lit≤ tt) (num32-lt b h 12);
+      body = missing-lt (ltb (length b) 24) (num64At b 16) 18446744073709551616 (lit≤ tt) (num64-lt b h 16);
+    }
+
+-- the first n values of a function
+abbrev row : ℕ → (ℕ → ℕ) → List ℕ
+row zero g = []
+row (suc n) g = g 0 ∷ row n (λ i. g (suc i))
+
+take-row : (n : ℕ) (b : List ℕ) → n ≤ length b → take n b ≡ row n (byte b)
+take-row zero b h = refl
+take-row (suc n) [] h = absurd (not-suc-le-zero h)
+take-row (suc n) (x ∷ b) h = ap {B = List ℕ} (λ r. x ∷ r) (take-row n b (le-of-suc-le-suc h))
+
+-- the frame of bytes that are all there
+abbrev full : List ℕ → Frame
+full b =
+    record {
+      byte0 = byte b 0;
+      tc = byte b 1 / 16 % 8;
+      marks = byte b 2 / 64;
+      at = byte b 2 / 4 % 4;
+      words = byte b 2 % 4 * 256 + byte b 3;
+      sender = num16At b 4;
+      byte6 = byte b 6;
+      byte7 = byte b 7;
+      dword8 = num32At b 8;
+      dword12 = num32At b 12;
+      body = num64At b 16;
+    }
+
+cut-full : (m : Form) (b : List ℕ) → fixedOf m ≤ length b → cut (fixedOf m) (frameOf b) ≡ cut (fixedOf m) (full b)
+unfolding frameOf
+cut-full m b h =
+    by-fixed (λ (n : ℕ). n ≤ length b → cut n (frameOf b) ≡ cut n (full b))
+    (λ g. refl)
+    (λ g. rw (le-ltb (length b) 16 g))
+    (λ g. let k : 16 ≤ length b = omega arith in rw (le-ltb (length b) 16 k, le-ltb (length b) 24 g))
+    m h
+
+-- the four bytes of the number that four bytes spell
+module _ (a b c d : ℕ) (ha : a < 256) (hb : b < 256) (hc : c < 256) (hd : d < 256) where
+  four-is :
+      (joined a b c d / 16777216 % 256 ≡ a)
+      × (joined a b c d / 65536 % 256 ≡ b)
+      × (joined a b c d / 256 % 256 ≡ c)
+      × (joined a b c d % 256 ≡ d)
+  four-is =
+      let p : joined a b c d / 65536 ≡ a * 256 + b = omega arith in
+      let q : joined a b c d / 256 ≡ (a * 256 + b) * 256 + c = omega arith in
+      let r : joined a b c d / 16777216 ≡ a = omega arith in
+      (rw r (omega arith), rw p (omega arith), rw q (omega arith), omega arith)
+
+byte2-is : (x y : ℕ) → x < 16 → y < 256 →
+    (x / 4 % 4 % 4 * 4 + (x % 4 * 256 + y) / 256 % 4 ≡ x) × ((x % 4 * 256 + y) % 256 ≡ y)
+byte2-is x y hx hy =
+    let p : (x % 4 * 256 + y) / 256 ≡ x % 4 = omega arith in
+    (rw p (omega arith), omega arith)
+
+two-is : (x y : ℕ) → x < 256 → y < 256 → ((x * 256 + y) / 256 % 256 ≡ x) × ((x * 256 + y) % 256 ≡ y)
+two-is x y hx hy =
+    let p : (x * 256 + y) / 256 ≡ x = omega arith in
+    (rw p (omega arith), omega arith)
+
+pub halves-is : (x y : ℕ) → y < 4294967296 → ((x * 4294967296 + y) / 4294967296 ≡ x) × ((x * 4294967296 + y) % 4294967296 ≡ y)
+halves-is x y h = (omega arith, omega arith)
+
+-- bytes whose first DWORD has no ignored bit set, and neither TD nor EP, are spelled by their frame
+module _ (b : List ℕ) (h : Bytes b) (h1 : byte b 1 / 16 % 8 * 16 ≡ byte b 1) (h2 : byte b 2 < 16) where
+  spelled-full : spelled (full b) ≡ row 24 (byte b)
+  spelled-full =
+      let t : byte b 1 / 16 % 8 % 8 ≡ byte b 1 / 16 % 8 = omega arith in
+      let p = byte2-is (byte b 2) (byte b 3) h2 (h 3) in
+      let q = two-is (byte b 4) (byte b 5) (h 4) (h 5) in
+      let x = halves-is (num32At b 16) (num32At b 20) (num32-lt b h 20) in
+      let b8 = four-is (byte b 8) (byte b 9) (byte b 10) (byte b 11) (h 8) (h 9) (h 10) (h 11) in
+      let b12 = four-is (byte b 12) (byte b 13) (byte b 14) (byte b 15) (h 12) (h 13) (h 14) (h 15) in
+      let b16 = four-is (byte b 16) (byte b 17) (byte b 18) (byte b 19) (h 16) (h 17) (h 18) (h 19) in
+      let b20 = four-is (byte b 20) (byte b 21) (byte b 22) (byte b 23) (h 20) (h 21) (h 22) (h 23) in
+      simp (
+        t,
+        h1,
+        p .0,
+        p .1,
+        q .0,
+        q .1,
+        x .0,
+        x .1,
+        b8 .0,
+        b8 .1,
+        b8 .2,
+        b8 .3,
+        b12 .0,
+        b12 .1,
+        b12 .2,
+        b12 .3,
+        b16 .0,
+        b16 .1,
+        b16 .2,
+        b16 .3,
+        b20 .0,
+        b20 .1,
+        b20 .2,
+        b20 .3,
+      )
+
+  pub spelled-cut : (m : Form) → fixedOf m ≤ length b → take (fixedOf m) (spelled (cut (fixedOf m) (frameOf b))) ≡ take (fixedOf m) b
+  spelled-cut m k =
+      ap (λ (f : Frame). take (fixedOf m) (spelled f)) (cut-full m b k)
+      ∙ by-fixed (λ (n : ℕ). take n (spelled (cut n (full b))) ≡ take n (spelled (full b))) refl refl refl m
+      ∙ ap (λ (l : List ℕ). take (fixedOf m) l) spelled-full
+      ∙ by-fixed (λ (n : ℕ). take n (row 24 (byte b)) ≡ row n (byte b)) refl refl refl m
+      ∙ sym (take-row (fixedOf m) b k)

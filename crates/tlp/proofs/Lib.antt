@@ -1,0 +1,9 @@
+pub mod Frames
+pub mod Fields
+pub mod Masks
+pub mod Tidy
+pub mod Refit
+pub mod Trips
+pub mod Forbidden
+pub mod Laws
+pub mod Words

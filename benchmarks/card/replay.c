@@ -8,7 +8,7 @@ static uint64_t mix_bytes(uint64_t sum, const uint8_t *b, size_t n) {
     return sum;
 }
 
-// The digest of the state's bytes, as crates/snapshot lays them out: each number by its width, high byte first.
+// The digest of the state's bytes, as crates/test_snapshot lays them out: each number by its width, high byte first.
 static uint64_t digest(uint64_t h, uint64_t number, int width) {
     while (width-- > 0) h = (h * 257 + (number >> 8 * width & 255) + 1) % 4294967291;
     return h;

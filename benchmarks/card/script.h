@@ -1,5 +1,5 @@
 // A script of calls: three numbers each, and a part of a pool of bytes, which is a packet that is received or an access's payload. The proved
-// side, crates/replay, takes them apart in the same way.
+// side, crates/bench_card, takes them apart in the same way.
 #include <stdbool.h>
 #include <stddef.h>
 #include <stdint.h>

@@ -11,18 +11,18 @@ use lib.Dec.{eqb, ltb}
 use lib.ListN.{length, set, replicate, length-set, length-map, List·getD-eq-default, List·getD-map}
 use lib.Seq.{set-out, getD-set-same}
 use borrow.Author.Tests.{lt-ltb, ltb-true, ltb-false, eqb-true, eq-eqb, not-true}
-use Rattle.lemmas.proofs.Cases.{byCases, and-both, never-both, is-false}
+use Rattle.lemmas.proofs.Cases.{byCases, and-both, never-both, is-false, impossible}
 use Rattle.lemmas.proofs.First.{first-holds, first-least, first-set, first-other, first-map}
 use Rattle.lemmas.proofs.Maps.{set-or}
-use Rattle.span.specs.declared.Range.{Range}
-use Rattle.span.specs.Range.{unitExponent, regionOf, meetsOf}
+use Rattle.ranges.specs.declared.Range.{Range}
+use Rattle.ranges.specs.Range.{unitExponent, regionOf, overlaps}
 use Rattle.atc.specs.declared.Entry.{Entry}
 use Rattle.atc.specs.declared.Cache.{Cache}
 use Rattle.atc.specs.declared.Found.{Found}
 use Rattle.atc.specs.declared.Found.the-variants.{Hit, Miss}
-use Rattle.atc.specs.Cache.{nothing, blank, emptied, holds, isFree, slotOf, freeSlot, slotAt, entryAt, found, put, filled, unitDropped, touches, entryDropped, rangeDropped, SoundCache}
+use Rattle.atc.specs.Cache.{noEntry, blank, emptied, isEntryOf, isFreeSlot, slotOf, freeSlot, slotAt, entryAt, found, withSlot, filledWith, unitDropped, entryOverlaps, entryDropped, rangeDropped, SoundCache}
 
--- A cache of any make is a type C with these operations. An entry stands at a number, and `nothing` where there is none.
+-- A cache of any make is a type C with these operations. An entry stands at a number, and `noEntry` where there is none.
 pub record CacheLaws (C : Type 0) (Sound : C → Type 0) (at : C → ℕ → Entry) (find : C → ℕ → Found) (new : C) (empty : C → C) (fill : Entry → C → C) (drop : ℕ → C → C) (dropRange : ℕ → Range → C → C) : Type 0 where
   -- a unit has at most one entry
   pub single : (c : C) → Sound c → (i j : ℕ) → at c i .used ≡ true → at c j .used ≡ true → at c i .unit ≡ at c j .unit → i ≡ j
@@ -31,10 +31,10 @@ pub record CacheLaws (C : Type 0) (Sound : C → Type 0) (at : C → ℕ → Ent
   pub found-only : (c : C) → Sound c → (i : ℕ) → at c i .used ≡ true → find c (at c i .unit) ≡ Hit (at c i)
   -- a new cache holds nothing
   pub new-sound : Sound new
-  pub new-entry : (i : ℕ) → at new i ≡ nothing
+  pub new-entry : (i : ℕ) → at new i ≡ noEntry
   -- nor does an emptied one
   pub empty-sound : (c : C) → Sound (empty c)
-  pub empty-entry : (c : C) (i : ℕ) → at (empty c) i ≡ nothing
+  pub empty-entry : (c : C) (i : ℕ) → at (empty c) i ≡ noEntry
   -- a fill: nothing comes in but the entry, which is found; any other unit keeps its entry, or loses it
   pub fill-sound : (e : Entry) (c : C) → Sound c → Sound (fill e c)
   pub fill-entry : (e : Entry) (c : C) → Sound c → (i : ℕ) → (at (fill e c) i ≡ at c i) ⊎ (at (fill e c) i ≡ e)
@@ -42,28 +42,28 @@ pub record CacheLaws (C : Type 0) (Sound : C → Type 0) (at : C → ℕ → Ent
   pub fill-other : (e : Entry) (c : C) → Sound c → (unit : ℕ) → (e .unit ≡ unit → ⊥) → (find (fill e c) unit ≡ find c unit) ⊎ (find (fill e c) unit ≡ Miss)
   -- the entry of a unit deleted: it is not found, and any other is as before
   pub drop-sound : (unit : ℕ) (c : C) → Sound c → Sound (drop unit c)
-  pub drop-entry : (unit : ℕ) (c : C) → Sound c → (i : ℕ) → (at (drop unit c) i ≡ at c i) ⊎ (at (drop unit c) i ≡ nothing)
+  pub drop-entry : (unit : ℕ) (c : C) → Sound c → (i : ℕ) → (at (drop unit c) i ≡ at c i) ⊎ (at (drop unit c) i ≡ noEntry)
   pub drop-found : (unit : ℕ) (c : C) → Sound c → find (drop unit c) unit ≡ Miss
   pub drop-other : (unit : ℕ) (c : C) → Sound c → (other : ℕ) → (unit ≡ other → ⊥) → find (drop unit c) other ≡ find c other
   -- a range deleted: just the entries go whose unit overlaps it
   pub range-sound : (stu : ℕ) (range : Range) (c : C) → Sound c → Sound (dropRange stu range c)
   pub range-entry : (stu : ℕ) (range : Range) (c : C) → Sound c → (i : ℕ) → at (dropRange stu range c) i ≡ entryDropped stu range (at c i)
-  pub range-found : (stu : ℕ) (range : Range) (c : C) → Sound c → (unit : ℕ) → meetsOf (regionOf unit (unitExponent stu)) range ≡ true → find (dropRange stu range c) unit ≡ Miss
-  pub range-other : (stu : ℕ) (range : Range) (c : C) → Sound c → (unit : ℕ) → meetsOf (regionOf unit (unitExponent stu)) range ≡ false → find (dropRange stu range c) unit ≡ find c unit
+  pub range-found : (stu : ℕ) (range : Range) (c : C) → Sound c → (unit : ℕ) → overlaps (regionOf unit (unitExponent stu)) range ≡ true → find (dropRange stu range c) unit ≡ Miss
+  pub range-other : (stu : ℕ) (range : Range) (c : C) → Sound c → (unit : ℕ) → overlaps (regionOf unit (unitExponent stu)) range ≡ false → find (dropRange stu range c) unit ≡ find c unit
 
 -- a used slot is one of the list
 used-lt : (slots : List Entry) (i : ℕ) → slotAt slots i .used ≡ true → i < length slots
 used-lt slots i u = go (decLe (length slots) i)
   where
     go : Dec (length slots ≤ i) → i < length slots
-    go (yes l) = absurd (never-both _ u (rw (List·getD-eq-default slots nothing l)))
+    go (yes l) = absurd (never-both _ u (rw (List·getD-eq-default slots noEntry l)))
     go (no n) = omega arith
 
-of-unit : (unit : ℕ) (e : Entry) → holds unit e ≡ true → (e .used ≡ true) × (e .unit ≡ unit)
+of-unit : (unit : ℕ) (e : Entry) → isEntryOf unit e ≡ true → (e .used ≡ true) × (e .unit ≡ unit)
 of-unit unit e h = let t = and-both (e .used) (eqb (e .unit) unit) h in (t .0, eqb-true (e .unit) unit (t .1))
 
 -- what only loses entries stays sound
-fewer : (c d : Cache) → length (d .slots) ≡ 32 → ((i : ℕ) → (entryAt d i ≡ entryAt c i) ⊎ (entryAt d i ≡ nothing)) → SoundCache c → SoundCache d
+fewer : (c d : Cache) → length (d .slots) ≡ 32 → ((i : ℕ) → (entryAt d i ≡ entryAt c i) ⊎ (entryAt d i ≡ noEntry)) → SoundCache c → SoundCache d
 fewer c d all f s = record { slots = all; single = λ i j u v q. s .single i j (rw (kept i u) at u) (rw (kept j v) at v) (rw (kept i u, kept j v) at q) }
   where
     kept : (k : ℕ) → entryAt d k .used ≡ true → entryAt d k ≡ entryAt c k
@@ -75,16 +75,16 @@ module _ (c : Cache) (s : SoundCache c) (unit : ℕ) where
   abbrev own : ℕ
   own = slotOf (c .slots) unit
 
-  slot-holds : own < 32 → holds unit (entryAt c own) ≡ true
-  slot-holds l = first-holds (holds unit) (c .slots) nothing (rw (s .slots) l)
+  slot-holds : own < 32 → isEntryOf unit (entryAt c own) ≡ true
+  slot-holds l = first-holds (isEntryOf unit) (c .slots) noEntry (rw (s .slots) l)
 
   slot-is : own < 32 → (entryAt c own .used ≡ true) × (entryAt c own .unit ≡ unit)
   slot-is l = of-unit unit (entryAt c own) (slot-holds l)
 
   slot-lt : (i : ℕ) → entryAt c i .used ≡ true → entryAt c i .unit ≡ unit → own < 32
   slot-lt i u q =
-      let h : holds unit (entryAt c i) ≡ true = rw (u, eq-eqb (entryAt c i .unit) unit q) in
-      omega (arith, first-least (holds unit) (c .slots) nothing i h, used-lt (c .slots) i u, s .slots)
+      let h : isEntryOf unit (entryAt c i) ≡ true = rw (u, eq-eqb (entryAt c i .unit) unit q) in
+      omega (arith, first-least (isEntryOf unit) (c .slots) noEntry i h, used-lt (c .slots) i u, s .slots)
 
   slot-only : (i : ℕ) → entryAt c i .used ≡ true → entryAt c i .unit ≡ unit → own ≡ i
   slot-only i u q = let h = slot-is (slot-lt i u q) in s .single own i (h .0) u (h .1 ∙ sym q)
@@ -97,7 +97,7 @@ module _ (c : Cache) (s : SoundCache c) (unit : ℕ) where
       let k : entryAt c own ≡ e = cc in
       let h = slot-is (ltb-true _ _ p) in
       (rw k at (h .0), rw k at (h .1), (own, k)))
-      (λ p. let q : Miss ≡ Hit e = rw p at f in let z : _≡_ {A = ℕ} 0 1 = cc in absurd (omega arith))
+      (λ p. let q : Miss ≡ Hit e = rw p at f in impossible cc)
 
   found-at : (i : ℕ) → entryAt c i .used ≡ true → entryAt c i .unit ≡ unit → found c unit ≡ Hit (entryAt c i)
   unfolding found
@@ -110,26 +110,26 @@ module _ (c : Cache) (s : SoundCache c) (unit : ℕ) where
 
   -- and where none is found no slot holds one
   found-none : found c unit ≡ Miss → (i : ℕ) → entryAt c i .used ≡ true → entryAt c i .unit ≡ unit → ⊥
-  found-none f i u q = let m : Hit (entryAt c i) ≡ Miss = sym (found-at i u q) ∙ f in let z : _≡_ {A = ℕ} 0 1 = cc in omega arith
+  found-none f i u q = let m : Hit (entryAt c i) ≡ Miss = sym (found-at i u q) ∙ f in impossible cc
 
   same-found : (d : Cache) → slotOf (d .slots) unit ≡ own → (own < 32 → entryAt d own ≡ entryAt c own) → found d unit ≡ found c unit
   unfolding found
   same-found d q f = rw q (byCases (ltb own 32) (λ p. rw p (ap Hit (f (ltb-true _ _ p)))) (λ p. rw p))
 
   -- a store where no entry of the unit was or will be is not seen
-  same-put : (k : ℕ) (e : Entry) (hand : ℕ) → holds unit (entryAt c k) ≡ false → holds unit e ≡ false → found (put c k e hand) unit ≡ found c unit
+  same-put : (k : ℕ) (e : Entry) (hand : ℕ) → isEntryOf unit (entryAt c k) ≡ false → isEntryOf unit e ≡ false → found (withSlot c k e hand) unit ≡ found c unit
   same-put k e hand f g =
-      same-found (put c k e hand) (first-other (holds unit) (c .slots) k e nothing f g)
-      (λ l. ⊎-elim (λ q. q) (λ q. absurd (never-both _ (rw (q .0) at (slot-holds l)) f)) (set-or (c .slots) k own e nothing))
+      same-found (withSlot c k e hand) (first-other (isEntryOf unit) (c .slots) k e noEntry f g)
+      (λ l. ⊎-elim (λ q. q) (λ q. absurd (never-both _ (rw (q .0) at (slot-holds l)) f)) (set-or (c .slots) k own e noEntry))
 
 -- ---- with no entry
 
-free-all : (n i : ℕ) → slotAt (replicate n nothing) i ≡ nothing
+free-all : (n i : ℕ) → slotAt (replicate n noEntry) i ≡ noEntry
 free-all zero i = refl
 free-all (suc n) zero = refl
 free-all (suc n) (suc i) = free-all n i
 
-bare-sound : (hand : ℕ) → SoundCache (record { hand = hand; slots = replicate 32 nothing })
+bare-sound : (hand : ℕ) → SoundCache (record { hand = hand; slots = replicate 32 noEntry })
 bare-sound hand = record { slots = refl; single = λ i j u v q. absurd (never-both _ u (rw (free-all 32 i))) }
 
 -- ---- filled
@@ -144,11 +144,11 @@ place e c = cond (ltb (slotOf (c .slots) (e .unit)) 32) (slotOf (c .slots) (e .u
 module _ (e : Entry) (c : Cache) where
   -- what holds of each of its three outcomes holds of a fill and its slot
   by-place : (P : Cache → ℕ → Type 0)
-      → (slotOf (c .slots) (e .unit) < 32 → P (put c (slotOf (c .slots) (e .unit)) e (c .hand)) (slotOf (c .slots) (e .unit)))
-      → (free c < 32 → P (put c (free c) e (c .hand)) (free c))
-      → (32 ≤ slotOf (c .slots) (e .unit) → 32 ≤ free c → P (put c (c .hand % 32) e ((c .hand + 1) % 2 ^ 32)) (c .hand % 32))
-      → P (filled e c) (place e c)
-  unfolding filled
+      → (slotOf (c .slots) (e .unit) < 32 → P (withSlot c (slotOf (c .slots) (e .unit)) e (c .hand)) (slotOf (c .slots) (e .unit)))
+      → (free c < 32 → P (withSlot c (free c) e (c .hand)) (free c))
+      → (32 ≤ slotOf (c .slots) (e .unit) → 32 ≤ free c → P (withSlot c (c .hand % 32) e ((c .hand + 1) % 2 ^ 32)) (c .hand % 32))
+      → P (filledWith e c) (place e c)
+  unfolding filledWith
   by-place P f g h =
       byCases (ltb (slotOf (c .slots) (e .unit)) 32)
       (λ p. rw p (f (ltb-true _ _ p)))
@@ -161,22 +161,22 @@ module _ (e : Entry) (c : Cache) where
   place-lt = by-place (λ d k. k < 32) (λ l. l) (λ l. l) (λ m n. omega arith)
 
   -- and no other changes:
-  fill-sets : filled e c ≡ put c (place e c) e (filled e c .hand)
-  fill-sets = by-place (λ d k. d ≡ put c k e (d .hand)) (λ l. refl) (λ l. refl) (λ m n. refl)
+  fill-sets : filledWith e c ≡ withSlot c (place e c) e (filledWith e c .hand)
+  fill-sets = by-place (λ d k. d ≡ withSlot c k e (d .hand)) (λ l. refl) (λ l. refl) (λ m n. refl)
 
   -- each slot holds what it held, or is that one and holds the entry
-  fill-slot : (i : ℕ) → (entryAt (filled e c) i ≡ entryAt c i) ⊎ ((i ≡ place e c) × (entryAt (filled e c) i ≡ e))
-  fill-slot i = rw fill-sets (set-or (c .slots) (place e c) i e nothing)
+  fill-slot : (i : ℕ) → (entryAt (filledWith e c) i ≡ entryAt c i) ⊎ ((i ≡ place e c) × (entryAt (filledWith e c) i ≡ e))
+  fill-slot i = rw fill-sets (set-or (c .slots) (place e c) i e noEntry)
 
 module _ (e : Entry) (c : Cache) (s : SoundCache c) where
   free-is : free c < 32 → entryAt c (free c) .used ≡ false
-  free-is l = not-true _ (first-holds isFree (c .slots) nothing (rw (s .slots) l))
+  free-is l = not-true _ (first-holds isFreeSlot (c .slots) noEntry (rw (s .slots) l))
 
   -- where the unit has an entry, that is what is replaced
   fill-own : (i : ℕ) → entryAt c i .used ≡ true → entryAt c i .unit ≡ e .unit → place e c ≡ i
   fill-own i u q = rw (lt-ltb (slotOf (c .slots) (e .unit)) 32 (slot-lt c s (e .unit) i u q)) (slot-only c s (e .unit) i u q)
 
-  fill-sound : SoundCache (filled e c)
+  fill-sound : SoundCache (filledWith e c)
   fill-sound =
       record {
         slots = rw (fill-sets e c) (length-set (c .slots) (place e c) e ∙ s .slots);
@@ -192,26 +192,26 @@ module _ (e : Entry) (c : Cache) (s : SoundCache c) where
             (fill-slot e c i);
       }
 
-  at-place : entryAt (filled e c) (place e c) ≡ e
-  at-place = rw (fill-sets e c) (getD-set-same (c .slots) (place e c) e nothing (rw (s .slots) (place-lt e c)))
+  at-place : entryAt (filledWith e c) (place e c) ≡ e
+  at-place = rw (fill-sets e c) (getD-set-same (c .slots) (place e c) e noEntry (rw (s .slots) (place-lt e c)))
 
-  fill-found : e .used ≡ true → found (filled e c) (e .unit) ≡ Hit e
+  fill-found : e .used ≡ true → found (filledWith e c) (e .unit) ≡ Hit e
   fill-found u =
-      found-at (filled e c) fill-sound (e .unit) (place e c) (rw at-place u) (rw at-place) ∙ ap Hit at-place
+      found-at (filledWith e c) fill-sound (e .unit) (place e c) (rw at-place u) (rw at-place) ∙ ap Hit at-place
 
   -- a unit keeps its entry unless it stood in the slot that is set,
-  fill-spared : (unit : ℕ) → (e .unit ≡ unit → ⊥) → holds unit (entryAt c (place e c)) ≡ false → found (filled e c) unit ≡ found c unit
+  fill-spared : (unit : ℕ) → (e .unit ≡ unit → ⊥) → isEntryOf unit (entryAt c (place e c)) ≡ false → found (filledWith e c) unit ≡ found c unit
   fill-spared unit f g =
       ap (λ (d : Cache). found d unit) (fill-sets e c)
-      ∙ same-put c s unit (place e c) e (filled e c .hand) g (is-false (holds unit e) (λ h. f (of-unit unit e h .1)))
+      ∙ same-put c s unit (place e c) e (filledWith e c .hand) g (is-false (isEntryOf unit e) (λ h. f (of-unit unit e h .1)))
 
   -- and loses it then
-  fill-other : (unit : ℕ) → (e .unit ≡ unit → ⊥) → (found (filled e c) unit ≡ found c unit) ⊎ (found (filled e c) unit ≡ Miss)
-  fill-other unit f = byCases (holds unit (entryAt c (place e c))) (λ h. inr (lost h)) (λ h. inl (fill-spared unit f h))
+  fill-other : (unit : ℕ) → (e .unit ≡ unit → ⊥) → (found (filledWith e c) unit ≡ found c unit) ⊎ (found (filledWith e c) unit ≡ Miss)
+  fill-other unit f = byCases (isEntryOf unit (entryAt c (place e c))) (λ h. inr (lost h)) (λ h. inl (fill-spared unit f h))
     where
-      lost : holds unit (entryAt c (place e c)) ≡ true → found (filled e c) unit ≡ Miss
+      lost : isEntryOf unit (entryAt c (place e c)) ≡ true → found (filledWith e c) unit ≡ Miss
       lost h =
-          none-found (filled e c) fill-sound unit
+          none-found (filledWith e c) fill-sound unit
           (λ i u q. ⊎-elim
           (λ a. let o = of-unit unit (entryAt c (place e c)) h in
           let k : i ≡ place e c = s .single i (place e c) (rw a at u) (o .0) ((rw a at q) ∙ sym (o .1)) in
@@ -222,18 +222,18 @@ module _ (e : Entry) (c : Cache) (s : SoundCache c) where
   -- ---- the hand of this cache
 
   -- no unit but the filled one is touched where the hand stays
-  pub fill-spares : filled e c .hand ≡ c .hand → (unit : ℕ) → (e .unit ≡ unit → ⊥) → found (filled e c) unit ≡ found c unit
+  pub fill-spares : filledWith e c .hand ≡ c .hand → (unit : ℕ) → (e .unit ≡ unit → ⊥) → found (filledWith e c) unit ≡ found c unit
   fill-spares stays unit f =
       fill-spared unit f
-      (is-false (holds unit (entryAt c (place e c)))
-      (λ h. by-place e c (λ d k. d .hand ≡ c .hand → holds unit (entryAt c k) ≡ true → ⊥)
+      (is-false (isEntryOf unit (entryAt c (place e c)))
+      (λ h. by-place e c (λ d k. d .hand ≡ c .hand → isEntryOf unit (entryAt c k) ≡ true → ⊥)
       (λ l r g. f (sym (slot-is c s (e .unit) l .1) ∙ of-unit unit (entryAt c (slotOf (c .slots) (e .unit))) g .1))
       (λ l r g. never-both _ (of-unit unit (entryAt c (free c)) g .0) (free-is l))
       (λ m n r g. omega arith)
       stays h))
 
   -- it stays, or the unit had no entry and no slot was free
-  pub fill-hand : (filled e c .hand ≡ c .hand) ⊎ ((found c (e .unit) ≡ Miss) × ((i : ℕ) → i < 32 → entryAt c i .used ≡ true))
+  pub fill-hand : (filledWith e c .hand ≡ c .hand) ⊎ ((found c (e .unit) ≡ Miss) × ((i : ℕ) → i < 32 → entryAt c i .used ≡ true))
   fill-hand =
       by-place e c (λ d k. (d .hand ≡ c .hand) ⊎ ((found c (e .unit) ≡ Miss) × ((i : ℕ) → i < 32 → entryAt c i .used ≡ true)))
       (λ l. inl refl)
@@ -241,12 +241,12 @@ module _ (e : Entry) (c : Cache) (s : SoundCache c) where
       (λ m n. inr (none-found c s (e .unit) (λ i u q. omega (arith, slot-lt c s (e .unit) i u q)), full n))
     where
       full : 32 ≤ free c → (i : ℕ) → i < 32 → entryAt c i .used ≡ true
-      full n i l = byCases (entryAt c i .used) (λ t. t) (λ t. absurd (omega (arith, first-least isFree (c .slots) nothing i (rw t))))
+      full n i l = byCases (entryAt c i .used) (λ t. t) (λ t. absurd (omega (arith, first-least isFreeSlot (c .slots) noEntry i (rw t))))
 
   -- then the slot that the hand names is set, and the hand steps
-  pub fill-full : found c (e .unit) ≡ Miss → ((i : ℕ) → i < 32 → entryAt c i .used ≡ true) → filled e c ≡ put c (c .hand % 32) e ((c .hand + 1) % 2 ^ 32)
+  pub fill-full : found c (e .unit) ≡ Miss → ((i : ℕ) → i < 32 → entryAt c i .used ≡ true) → filledWith e c ≡ withSlot c (c .hand % 32) e ((c .hand + 1) % 2 ^ 32)
   fill-full m f =
-      by-place e c (λ d k. d ≡ put c (c .hand % 32) e ((c .hand + 1) % 2 ^ 32))
+      by-place e c (λ d k. d ≡ withSlot c (c .hand % 32) e ((c .hand + 1) % 2 ^ 32))
       (λ l. let own = slot-is c s (e .unit) l in absurd (found-none c s (e .unit) m (slotOf (c .slots) (e .unit)) (own .0) (own .1)))
       (λ l. absurd (never-both _ (f (free c) l) (free-is l)))
       (λ m n. refl)
@@ -254,28 +254,28 @@ module _ (e : Entry) (c : Cache) (s : SoundCache c) where
 -- ---- the entry of a unit deleted
 
 module _ (unit : ℕ) (c : Cache) (s : SoundCache c) where
-  drop-sets : unitDropped unit c ≡ put c (slotOf (c .slots) unit) nothing (c .hand)
+  drop-sets : unitDropped unit c ≡ withSlot c (slotOf (c .slots) unit) noEntry (c .hand)
   unfolding unitDropped
   drop-sets =
       byCases (ltb (slotOf (c .slots) unit) 32)
       (λ p. rw p)
       (λ p. let l : length (c .slots) ≤ slotOf (c .slots) unit = omega (arith, ltb-false (slotOf (c .slots) unit) 32 p, s .slots) in
-      rw (p, set-out (c .slots) (slotOf (c .slots) unit) nothing l))
+      rw (p, set-out (c .slots) (slotOf (c .slots) unit) noEntry l))
 
-  drop-entry : (i : ℕ) → (entryAt (unitDropped unit c) i ≡ entryAt c i) ⊎ (entryAt (unitDropped unit c) i ≡ nothing)
-  drop-entry i = rw drop-sets (⊎-elim inl (λ q. inr (q .1)) (set-or (c .slots) (slotOf (c .slots) unit) i nothing nothing))
+  drop-entry : (i : ℕ) → (entryAt (unitDropped unit c) i ≡ entryAt c i) ⊎ (entryAt (unitDropped unit c) i ≡ noEntry)
+  drop-entry i = rw drop-sets (⊎-elim inl (λ q. inr (q .1)) (set-or (c .slots) (slotOf (c .slots) unit) i noEntry noEntry))
 
   drop-sound : SoundCache (unitDropped unit c)
-  drop-sound = fewer c (unitDropped unit c) (rw drop-sets (length-set (c .slots) (slotOf (c .slots) unit) nothing ∙ s .slots)) drop-entry s
+  drop-sound = fewer c (unitDropped unit c) (rw drop-sets (length-set (c .slots) (slotOf (c .slots) unit) noEntry ∙ s .slots)) drop-entry s
 
   drop-found : found (unitDropped unit c) unit ≡ Miss
   drop-found = none-found (unitDropped unit c) drop-sound unit (λ i u q. gone i (drop-entry i) u q)
     where
-      gone : (i : ℕ) → (entryAt (unitDropped unit c) i ≡ entryAt c i) ⊎ (entryAt (unitDropped unit c) i ≡ nothing) → entryAt (unitDropped unit c) i .used ≡ true → entryAt (unitDropped unit c) i .unit ≡ unit → ⊥
+      gone : (i : ℕ) → (entryAt (unitDropped unit c) i ≡ entryAt c i) ⊎ (entryAt (unitDropped unit c) i ≡ noEntry) → entryAt (unitDropped unit c) i .used ≡ true → entryAt (unitDropped unit c) i .unit ≡ unit → ⊥
       gone i (inl a) u q =
           let k = slot-only c s unit i (rw a at u) (rw a at q) in
           let l = used-lt (c .slots) i (rw a at u) in
-          never-both _ u (rw (drop-sets, k, getD-set-same (c .slots) i nothing nothing l))
+          never-both _ u (rw (drop-sets, k, getD-set-same (c .slots) i noEntry noEntry l))
       gone i (inr a) u q = never-both _ u (rw a)
 
   drop-other : (other : ℕ) → (unit ≡ other → ⊥) → found (unitDropped unit c) other ≡ found c other
@@ -283,8 +283,8 @@ module _ (unit : ℕ) (c : Cache) (s : SoundCache c) where
       let k = slotOf (c .slots) unit in
       let x = entryAt c k in
       ap (λ (d : Cache). found d other) drop-sets
-      ∙ same-put c s other k nothing (c .hand)
-      (is-false (holds other x)
+      ∙ same-put c s other k noEntry (c .hand)
+      (is-false (isEntryOf other x)
       (λ h. let o = of-unit other x h in f (sym (slot-is c s unit (rw (s .slots) at (used-lt (c .slots) k (o .0))) .1) ∙ o .1)))
       refl
 
@@ -293,38 +293,38 @@ module _ (unit : ℕ) (c : Cache) (s : SoundCache c) where
 module _ (stu : ℕ) (range : Range) (c : Cache) where
   range-entry : (i : ℕ) → entryAt (rangeDropped stu range c) i ≡ entryDropped stu range (entryAt c i)
   unfolding rangeDropped
-  range-entry i = List·getD-map (entryDropped stu range) (c .slots) i nothing
+  range-entry i = List·getD-map (entryDropped stu range) (c .slots) i noEntry
 
-  range-clear : (i : ℕ) → touches stu range (entryAt (rangeDropped stu range c) i) ≡ false
-  range-clear i = rw (range-entry i) (byCases (touches stu range (entryAt c i)) (λ p. rw p) (λ p. rw p p))
+  range-clear : (i : ℕ) → entryOverlaps stu range (entryAt (rangeDropped stu range c) i) ≡ false
+  range-clear i = rw (range-entry i) (byCases (entryOverlaps stu range (entryAt c i)) (λ p. rw p) (λ p. rw p p))
 
   range-sound : SoundCache c → SoundCache (rangeDropped stu range c)
   unfolding rangeDropped
   range-sound s =
       fewer c (rangeDropped stu range c) (length-map (c .slots) (entryDropped stu range) ∙ s .slots)
-      (λ i. rw (range-entry i) (byCases (touches stu range (entryAt c i)) (λ p. rw p (inr refl)) (λ p. rw p (inl refl)))) s
+      (λ i. rw (range-entry i) (byCases (entryOverlaps stu range (entryAt c i)) (λ p. rw p (inr refl)) (λ p. rw p (inl refl)))) s
 
   module _ (s : SoundCache c) (unit : ℕ) where
-    range-found : meetsOf (regionOf unit (unitExponent stu)) range ≡ true → found (rangeDropped stu range c) unit ≡ Miss
+    range-found : overlaps (regionOf unit (unitExponent stu)) range ≡ true → found (rangeDropped stu range c) unit ≡ Miss
     range-found m = none-found (rangeDropped stu range c) (range-sound s) unit (λ i u q. never-both _ (rw (u, q, m)) (range-clear i))
 
-    range-other : meetsOf (regionOf unit (unitExponent stu)) range ≡ false → found (rangeDropped stu range c) unit ≡ found c unit
+    range-other : overlaps (regionOf unit (unitExponent stu)) range ≡ false → found (rangeDropped stu range c) unit ≡ found c unit
     unfolding rangeDropped
     range-other m =
         same-found c s unit (rangeDropped stu range c) same-slot
         (λ l. range-entry (slotOf (c .slots) unit) ∙ kept (entryAt c (slotOf (c .slots) unit)) (slot-holds c s unit l))
       where
-        kept : (e : Entry) → holds unit e ≡ true → entryDropped stu range e ≡ e
+        kept : (e : Entry) → isEntryOf unit e ≡ true → entryDropped stu range e ≡ e
         kept e h = let o = of-unit unit e h in rw (o .0, o .1, m)
 
-        same : (e : Entry) → holds unit (entryDropped stu range e) ≡ holds unit e
-        same e = byCases (holds unit e) (λ h. rw (kept e h)) (λ h. rw h (byCases (touches stu range e) (λ p. rw p) (λ p. rw p h)))
+        same : (e : Entry) → isEntryOf unit (entryDropped stu range e) ≡ isEntryOf unit e
+        same e = byCases (isEntryOf unit e) (λ h. rw (kept e h)) (λ h. rw h (byCases (entryOverlaps stu range e) (λ p. rw p) (λ p. rw p h)))
 
         same-slot : slotOf (rangeDropped stu range c .slots) unit ≡ slotOf (c .slots) unit
-        same-slot = first-map (holds unit) (entryDropped stu range) same (c .slots)
+        same-slot = first-map (isEntryOf unit) (entryDropped stu range) same (c .slots)
 
 -- the laws of this cache
-pub laws : CacheLaws Cache SoundCache entryAt found blank emptied filled unitDropped rangeDropped
+pub laws : CacheLaws Cache SoundCache entryAt found blank emptied filledWith unitDropped rangeDropped
 laws =
     record {
       single = λ c s. s .single;

@@ -5,42 +5,42 @@ use mathlib.Core.List.{List, map}
 use Prim.Native.Nat.{ℕ, _+_, _%_, _^_}
 use lib.Dec.{eqb, ltb}
 use lib.ListN.{length, replicate, set, getD}
-use Rattle.lemmas.specs.First.{firstAt}
-use Rattle.span.specs.declared.Range.{Range}
-use Rattle.span.specs.Range.{unitExponent, regionOf, meetsOf}
+use Rattle.lemmas.specs.First.{firstIndex}
+use Rattle.ranges.specs.declared.Range.{Range}
+use Rattle.ranges.specs.Range.{unitExponent, regionOf, overlaps}
 use Rattle.atc.specs.declared.Entry.{Entry}
 use Rattle.atc.specs.declared.Cache.{Cache}
 use Rattle.atc.specs.declared.Found.{Found}
 use Rattle.atc.specs.declared.Found.the-variants.{Hit, Miss}
 
 -- what a free slot holds
-abbrev pub nothing : Entry
-nothing = record { used = false; r = false; w = false; n = false; u = false; unit = 0; to = 0 }
+abbrev pub noEntry : Entry
+noEntry = record { used = false; r = false; w = false; n = false; u = false; unit = 0; to = 0 }
 
 -- 32 free slots, and the hand at the first
 abbrev pub blank : Cache
-blank = record { hand = 0; slots = replicate 32 nothing }
+blank = record { hand = 0; slots = replicate 32 noEntry }
 
 -- emptying leaves the hand where it stands
 abbrev pub emptied : Cache → Cache
-emptied c = record { hand = c .hand; slots = replicate 32 nothing }
+emptied c = record { hand = c .hand; slots = replicate 32 noEntry }
 
 -- is this the entry of a unit, given by its address?
-abbrev pub holds : ℕ → Entry → Bool
-holds unit e = e .used && eqb (e .unit) unit
+abbrev pub isEntryOf : ℕ → Entry → Bool
+isEntryOf unit e = e .used && eqb (e .unit) unit
 
-abbrev pub isFree : Entry → Bool
-isFree e = not (e .used)
+abbrev pub isFreeSlot : Entry → Bool
+isFreeSlot e = not (e .used)
 
 abbrev pub slotOf : List Entry → ℕ → ℕ
-slotOf slots unit = firstAt (holds unit) slots
+slotOf slots unit = firstIndex (isEntryOf unit) slots
 
 abbrev pub freeSlot : List Entry → ℕ
-freeSlot slots = firstAt isFree slots
+freeSlot slots = firstIndex isFreeSlot slots
 
 -- what a slot holds; there is nothing past the last
 abbrev pub slotAt : List Entry → ℕ → Entry
-slotAt slots i = getD slots i nothing
+slotAt slots i = getD slots i noEntry
 
 abbrev pub entryAt : Cache → ℕ → Entry
 entryAt c i = slotAt (c .slots) i
@@ -50,27 +50,27 @@ unfoldable pub found : Cache → ℕ → Found
 found c unit = cond (ltb (slotOf (c .slots) unit) 32) (Hit (entryAt c (slotOf (c .slots) unit))) Miss
 
 -- slot i and the hand are set, and nothing else
-abbrev pub put : Cache → ℕ → Entry → ℕ → Cache
-put c i e hand = record { hand = hand; slots = set (c .slots) i e }
+abbrev pub withSlot : Cache → ℕ → Entry → ℕ → Cache
+withSlot c i e hand = record { hand = hand; slots = set (c .slots) i e }
 
 -- A fill goes where its unit has an entry already, or else into the lowest slot that is free. With none free it goes where the hand points, which is a slot by the
 -- hand's remainder; the hand steps then and only then, and wraps at 2 ^ 32.
-unfoldable pub filled : Entry → Cache → Cache
-filled e c =
-    cond (ltb (slotOf (c .slots) (e .unit)) 32) (put c (slotOf (c .slots) (e .unit)) e (c .hand))
-    (cond (ltb (freeSlot (c .slots)) 32) (put c (freeSlot (c .slots)) e (c .hand))
-    (put c (c .hand % 32) e ((c .hand + 1) % 2 ^ 32)))
+unfoldable pub filledWith : Entry → Cache → Cache
+filledWith e c =
+    cond (ltb (slotOf (c .slots) (e .unit)) 32) (withSlot c (slotOf (c .slots) (e .unit)) e (c .hand))
+    (cond (ltb (freeSlot (c .slots)) 32) (withSlot c (freeSlot (c .slots)) e (c .hand))
+    (withSlot c (c .hand % 32) e ((c .hand + 1) % 2 ^ 32)))
 
 -- the entry of one unit is deleted
 unfoldable pub unitDropped : ℕ → Cache → Cache
-unitDropped unit c = cond (ltb (slotOf (c .slots) unit) 32) (put c (slotOf (c .slots) unit) nothing (c .hand)) c
+unitDropped unit c = cond (ltb (slotOf (c .slots) unit) 32) (withSlot c (slotOf (c .slots) unit) noEntry (c .hand)) c
 
 -- does an entry's unit overlap a range?
-abbrev pub touches : ℕ → Range → Entry → Bool
-touches stu range e = e .used && meetsOf (regionOf (e .unit) (unitExponent stu)) range
+abbrev pub entryOverlaps : ℕ → Range → Entry → Bool
+entryOverlaps stu range e = e .used && overlaps (regionOf (e .unit) (unitExponent stu)) range
 
 abbrev pub entryDropped : ℕ → Range → Entry → Entry
-entryDropped stu range e = cond (touches stu range e) nothing e
+entryDropped stu range e = cond (entryOverlaps stu range e) noEntry e
 
 abbrev pub slotsDropped : ℕ → Range → List Entry → List Entry
 slotsDropped stu range slots = map (entryDropped stu range) slots

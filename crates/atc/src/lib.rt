@@ -1,8 +1,8 @@
 // The translation cache, behind its operations. Inside are 32 slots of one unit each, and the hand.
-use span::Range;
+use ranges::Range;
 ghost use mathlib.Core.Path.{_≡_};
-ghost use Rattle.lemmas.specs.First.{firstAt};
-ghost use Rattle.atc.specs.Cache.{nothing, holds, isFree, blank, emptied, slotAt, entryAt, found, filled, unitDropped, touches, slotsDropped, rangeDropped};
+ghost use Rattle.lemmas.specs.First.{firstIndex};
+ghost use Rattle.atc.specs.Cache.{noEntry, isEntryOf, isFreeSlot, blank, emptied, slotAt, entryAt, found, filledWith, unitDropped, entryOverlaps, slotsDropped, rangeDropped};
 
 // One slot. A free one holds nothing else.
 pub struct Entry {
@@ -25,8 +25,8 @@ pub enum Found {
     Miss,
 }
 
-fn free_slot() -> Entry
-    ensures { λ r. ⌜ r ≡ nothing ⌝ }
+fn no_entry() -> Entry
+    ensures { λ r. ⌜ r ≡ noEntry ⌝ }
 {
     Entry {
         used: false,
@@ -45,7 +45,7 @@ pub fn new() -> Cache
 {
     Cache {
         hand: 0,
-        slots: [free_slot(); 32],
+        slots: [no_entry(); 32],
     }
 }
 
@@ -53,7 +53,7 @@ pub fn new() -> Cache
 pub fn empty(mut c: Cache) -> Cache
     ensures { λ r. ⌜ r ≡ emptied c ⌝ }
 {
-    let slots = [free_slot(); 32];
+    let slots = [no_entry(); 32];
     c.slots = slots;
     c
 }
@@ -62,7 +62,7 @@ pub fn empty(mut c: Cache) -> Cache
 fn slot_at(slots: [Entry; 32], i: usize) -> Entry
     ensures { λ r. ⌜ r ≡ slotAt slots i ⌝ }
 {
-    if i < 32 { slots[i] } else { free_slot() }
+    if i < 32 { slots[i] } else { no_entry() }
 }
 
 // What slot i holds.
@@ -81,20 +81,20 @@ pub fn evictions(c: Cache) -> u32
     count
 }
 
-fn is_of(e: Entry, unit: u64) -> bool
-    ensures { λ r. ⌜ r ≡ holds unit e ⌝ }
+fn is_entry_of(e: Entry, unit: u64) -> bool
+    ensures { λ r. ⌜ r ≡ isEntryOf unit e ⌝ }
 {
     if e.used { e.unit == unit } else { false }
 }
 
 // The slot that holds a unit, and 32 where none does.
 fn slot_of(slots: [Entry; 32], unit: u64) -> usize
-    ensures { λ r. ⌜ r ≡ firstAt (holds unit) slots ⌝ }
+    ensures { λ r. ⌜ r ≡ firstIndex (isEntryOf unit) slots ⌝ }
 {
     let mut i: usize = 0;
     while i < 32 {
         let e = slots[i];
-        if is_of(e, unit) {
+        if is_entry_of(e, unit) {
             return i;
         }
         i += 1;
@@ -103,7 +103,7 @@ fn slot_of(slots: [Entry; 32], unit: u64) -> usize
 }
 
 fn lowest_free(slots: [Entry; 32]) -> usize
-    ensures { λ r. ⌜ r ≡ firstAt isFree slots ⌝ }
+    ensures { λ r. ⌜ r ≡ firstIndex isFreeSlot slots ⌝ }
 {
     let mut i: usize = 0;
     while i < 32 {
@@ -131,7 +131,7 @@ pub fn find(c: Cache, unit: u64) -> Found
 // Into the slot of the unit's entry, or else the lowest free one; with none free into the slot that
 // the hand names, and the hand steps.
 pub fn fill(mut c: Cache, e: Entry) -> Cache
-    ensures { λ r. ⌜ r ≡ filled e c ⌝ }
+    ensures { λ r. ⌜ r ≡ filledWith e c ⌝ }
 {
     let slots = c.slots;
     let hand = c.hand;
@@ -159,16 +159,16 @@ pub fn drop_unit(mut c: Cache, unit: u64) -> Cache
     let slots = c.slots;
     let own_slot = slot_of(slots, unit);
     if own_slot < 32 {
-        c.slots[own_slot] = free_slot();
+        c.slots[own_slot] = no_entry();
     }
     c
 }
 
-fn is_in(e: Entry, stu: u8, range: Range) -> bool
-    ensures { λ r. ⌜ r ≡ touches stu range e ⌝ }
+fn entry_overlaps(e: Entry, stu: u8, range: Range) -> bool
+    ensures { λ r. ⌜ r ≡ entryOverlaps stu range e ⌝ }
 {
     if e.used {
-        span::meets(span::region(e.unit, span::unit_exponent(stu)), range)
+        ranges::overlaps(ranges::region(e.unit, ranges::unit_exponent(stu)), range)
     } else {
         false
     }
@@ -180,8 +180,8 @@ fn drop_slots(mut slots: [Entry; 32], stu: u8, range: Range) -> [Entry; 32]
     let mut i: usize = 0;
     while i < 32 {
         let e = slots[i];
-        if is_in(e, stu, range) {
-            slots[i] = free_slot();
+        if entry_overlaps(e, stu, range) {
+            slots[i] = no_entry();
         }
         i += 1;
     }

@@ -1,6 +1,6 @@
 pub mod Cases
 pub mod Refused
-pub mod Told
+pub mod Injective
 pub mod Tables
-pub mod Kept
+pub mod Invariant
 pub mod Completed

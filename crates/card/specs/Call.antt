@@ -1,20 +1,20 @@
 -- One definition over all calls. Serves 01, "The Function's tables".
 use mathlib.Core.List.{List}
 use Prim.Native.Nat.{ℕ}
-use Rattle.packet.specs.Numbers.{Said}
+use Rattle.packet.specs.Numbers.{Result}
 use Rattle.state.specs.declared.Function.{Function}
-use Rattle.state.specs.Answers.{Deed, Result, ended}
+use Rattle.state.specs.Answers.{Success, Observed, commit}
 use Rattle.state.specs.Switches.{resetting, enabling, disabling, switchingOn, switchingOff}
-use Rattle.asks.specs.Ask.{asking}
-use Rattle.accesses.specs.Access.{accessing}
-use Rattle.drains.specs.Drain.{draining}
-use Rattle.requests.specs.PageRequests.{requesting}
-use Rattle.receives.specs.Receive.{received}
+use Rattle.call_ask.specs.Ask.{asking}
+use Rattle.call_access.specs.Access.{accessing}
+use Rattle.call_send.specs.Drain.{draining}
+use Rattle.call_page.specs.PageRequests.{requesting}
+use Rattle.call_receive.specs.Receive.{received}
 use Rattle.card.specs.declared.Command.{Command}
 use Rattle.card.specs.declared.Command.the-variants.{Reset, Enable, Disable, Ask, Access, Receive, Drain, PagesOn, PagesOff, PageRequest}
 
 -- what a call does: bytes is the packet received or the payload handed in, out the lent buffer
-unfoldable pub calling : Function → Command → List ℕ → List ℕ → Said Deed
+unfoldable pub calling : Function → Command → List ℕ → List ℕ → Result Success
 calling f (Reset a) bytes out = resetting a
 calling f Enable bytes out = enabling f
 calling f Disable bytes out = disabling f
@@ -27,5 +27,5 @@ calling f PagesOff bytes out = switchingOff f (f .pages .interface)
 calling f (PageRequest q) bytes out = requesting f q out (f .pages .interface)
 
 -- and what is seen of it
-abbrev pub step : Function → Command → List ℕ → List ℕ → Result
-step f c bytes out = ended f out (calling f c bytes out)
+abbrev pub step : Function → Command → List ℕ → List ℕ → Observed
+step f c bytes out = commit f out (calling f c bytes out)

@@ -5,22 +5,22 @@ use Prim.Native.Nat.{_≤_}
 use lib.ListN.{length}
 use Rattle.atc.specs.declared.Cache.{Cache}
 use Rattle.atc.specs.Cache.{SoundCache}
-use Rattle.tags.specs.declared.Place.{Place}
+use Rattle.tags.specs.declared.TagRow.{TagRow}
 use Rattle.pages.specs.declared.Pages.{Pages}
-use Rattle.pages.specs.Pages.{used}
+use Rattle.pages.specs.Pages.{usedCredits}
 use Rattle.state.specs.declared.Function.{Function}
 
 -- 32 groups, and no more credits in use than the allocation, which is 512 at most
 pub record SoundPages (p : Pages) : Type 0 where
   pub groups : length (p .groups) ≡ 32
   pub granted : p .allocation ≤ 512
-  pub within : used (p .groups) ≤ p .allocation
+  pub within : usedCredits (p .groups) ≤ p .allocation
 
 -- a sound cache, 32 tags and sound pages
-pub record SoundTables (c : Cache) (places : List Place) (p : Pages) : Type 0 where
+pub record SoundTables (c : Cache) (table : List TagRow) (p : Pages) : Type 0 where
   pub cache : SoundCache c
-  pub tags : length places ≡ 32
+  pub tags : length table ≡ 32
   pub pages : SoundPages p
 
 abbrev pub Sound : Function → Type 0
-Sound f = SoundTables (f .cache) (f .places) (f .pages)
+Sound f = SoundTables (f .cache) (f .tags) (f .pages)

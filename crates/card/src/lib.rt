@@ -1,47 +1,47 @@
 // The Function as its users see it: every call, and the one entry over them all.
-pub use accesses::Accessing;
-pub use accesses::Goes;
-pub use accesses::Target;
-pub use accesses::Way;
-pub use accesses::access;
-pub use accesses::look_up;
-pub use asks::Asking;
-pub use asks::ask;
-pub use drains::drain;
-pub use drains::ready;
+pub use call_access::AccessArgs;
+pub use call_access::Direction;
+pub use call_access::Goes;
+pub use call_access::Target;
+pub use call_access::access;
+pub use call_access::look_up;
+pub use call_ask::AskArgs;
+pub use call_ask::ask;
+pub use call_page::page_request;
+pub use call_receive::payload_of;
+pub use call_receive::receive;
+pub use call_send::drain;
+pub use call_send::ready;
 pub use packet::ITag;
 pub use packet::PageRequest;
 pub use packet::PrgIndex;
 pub use packet::Refusal;
 pub use packet::Tag;
 pub use packet::number;
-pub use receives::payload_of;
-pub use receives::receive;
-pub use replies::Rcb;
-pub use requests::page_request;
 pub use state::Agent;
 pub use state::Answer;
 pub use state::Effect;
 pub use state::Function;
-pub use state::Resetting;
+pub use state::ResetArgs;
 pub use state::disable;
 pub use state::enable;
 pub use state::new;
 pub use state::pages_off;
 pub use state::pages_on;
 pub use state::reset;
+pub use translations::Rcb;
 ghost use mathlib.Core.Path.{_≡_};
-ghost use Rattle.state.specs.Answers.{told};
+ghost use Rattle.state.specs.Answers.{observed};
 ghost use Rattle.card.specs.Call.{step};
 
 // A call with its arguments. The bytes of a packet that is received, or of an access's payload,
 // come beside it.
 pub enum Command {
-    Reset(Resetting),
+    Reset(ResetArgs),
     Enable,
     Disable,
-    Ask(Asking),
-    Access(Accessing),
+    Ask(AskArgs),
+    Access(AccessArgs),
     Receive,
     Drain,
     PagesOn(u16),
@@ -51,7 +51,7 @@ pub enum Command {
 
 // Any call on any state.
 pub fn call(f: Function, c: Command, bytes: &[u8], out: &mut [u8]) -> Effect
-    ensures { λ r. ⌜ told r (now (out .exit)) ≡ step f c (now (bytes .entry)) (now (out .entry)) ⌝ }
+    ensures { λ r. ⌜ observed r (now (out .exit)) ≡ step f c (now (bytes .entry)) (now (out .entry)) ⌝ }
 {
     match c {
         Command::Reset(a) => reset(f, a),

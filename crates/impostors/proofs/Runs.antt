@@ -6,44 +6,44 @@ use mathlib.Core.Option.{none, some}
 use Prim.Native.Nat.{ℕ, _+_}
 use lib.Dec.{lit<}
 use lib.ListN.{replicate}
-use Rattle.packet.specs.Frames.{frameOf, four}
+use Rattle.packet.specs.Frames.{decodeFrame, fourBytes}
 use Rattle.packet.specs.Forms.{choose}
-use Rattle.packet.specs.Kinds.{bodyIn, shaped, allowedBody, withinBody, loadOf, formOf, framed}
-use Rattle.packet.specs.Numbers.{gives, number}
-use Rattle.packet.specs.Reading.{readForm, reading, payloadIn, wordAt}
+use Rattle.packet.specs.Kinds.{bodyIn, wellFormed, allowedBody, bodyInRange, payloadLength, formOf, packetFrame}
+use Rattle.packet.specs.Numbers.{ok, refusal}
+use Rattle.packet.specs.Reading.{readForm, reading, payloadIn, qwordAt}
 use Rattle.packet.specs.Writing.{bytesOf, writing}
-use Rattle.span.specs.declared.Range.{Range}
-use Rattle.span.specs.Range.{regionOf, roundedOf, reachOf, runOf, movedTo}
-use Rattle.span.specs.Size.{lowestZero, sizeOf, translationOf}
-use Rattle.lemmas.specs.First.{firstAt}
-use Rattle.lemmas.specs.Run.{runTo}
-use Rattle.lemmas.specs.All.{allTo}
-use Rattle.lemmas.specs.Gather.{gather}
-use Rattle.tlp.specs.Words.{areBytes}
+use Rattle.ranges.specs.declared.Range.{Range}
+use Rattle.ranges.specs.Range.{regionOf, roundedOf, rangeFrom, unitsFrom, relocated}
+use Rattle.ranges.specs.Size.{lowestZero, sizeOf, translationOf}
+use Rattle.lemmas.specs.First.{firstIndex}
+use Rattle.lemmas.specs.Iterate.{iterate}
+use Rattle.lemmas.specs.All.{allBelow}
+use Rattle.lemmas.specs.Fold.{foldMap}
+use Rattle.tlp.specs.Qwords.{areBytes}
 use Rattle.tlp.specs.Translations.{translationAt}
-use Rattle.atc.specs.Cache.{found, filled as put, unitDropped, rangeDropped}
-use Rattle.tags.specs.Itags.{isIn, joined, without}
-use Rattle.tags.specs.Tags.{freeTag, heldAt, placed, rangeOf, bytesAsked, touches, snooped, allStaled, noted}
-use Rattle.replies.specs.Fits.{onBoundary, firstPart as startsPart, secondPart, partOf, sizeOfAll, beginsIn, cameOf, fitsAt, allFit, sizeFits, judged}
-use Rattle.replies.specs.Fills.{unitFilled, covered, unitStep, applied}
+use Rattle.atc.specs.Cache.{found, filledWith, unitDropped, rangeDropped}
+use Rattle.tags.specs.Itags.{isIn, withItag, without}
+use Rattle.tags.specs.Tags.{freeTag, tagState, setTag, translationRange, readRange, pendingOverlaps, invalidatedTags, allStale, delayedItags}
+use Rattle.translations.specs.Fits.{onBoundary, firstPart as startsPart, secondPart, partOf, commonSize, beginsIn, receivedCount, translationFits, allFit, sizeFits, classified}
+use Rattle.translations.specs.Fills.{unitUpdated, updatedIfCovered, updatedAt, applied}
 use Rattle.state.specs.State.{fresh, rcbOf}
-use Rattle.state.specs.Answers.{sending, done}
+use Rattle.state.specs.Answers.{sends, done}
 use Rattle.state.specs.Switches.{resetting, enabling, disabling}
-use Rattle.accesses.specs.declared.Way.the-variants.{Read}
-use Rattle.asks.specs.Ask.{isBelowTop, isAskable, asking}
-use Rattle.accesses.specs.Access.{lookingUp, accessing}
-use Rattle.drains.specs.Drain.{sendingVector}
-use Rattle.completions.specs.Reads.{fetched, unfetched}
-use Rattle.completions.specs.Translations.{settled, translated, untranslated}
-use Rattle.completions.specs.Completions.{completed}
-use Rattle.snoops.specs.Invalidate.{snoopRange, invalidated}
-use Rattle.receives.specs.Receive.{taken, received}
+use Rattle.call_access.specs.declared.Direction.the-variants.{Read}
+use Rattle.call_ask.specs.Ask.{isBelowTop, isAskable, asking}
+use Rattle.call_access.specs.Access.{lookingUp, accessing}
+use Rattle.call_send.specs.Drain.{sendsVector}
+use Rattle.on_completion.specs.Reads.{onReadData, onReadStatus}
+use Rattle.on_completion.specs.Translations.{appliedIfLive, onTranslationData, onTranslationStatus}
+use Rattle.on_completion.specs.Completions.{completed}
+use Rattle.on_invalidate.specs.Invalidate.{invalidatedRange, invalidated}
+use Rattle.call_receive.specs.Receive.{taken, received}
 use Rattle.card.specs.declared.Command.{Command}
 use Rattle.card.specs.declared.Command.the-variants.{Reset, Enable, Ask, Access, Receive, Drain}
 use Rattle.card.specs.Call.{calling}
-use Rattle.demand.specs.Demand.{Bench, Ticket, fetch, accepts, openAt, readIn, remains, waits, completions, next, seen, after, history, Completed}
-use Rattle.demand.proofs.Theorem.{broughtIn}
-use Rattle.keeps.specs.Demands.{Call, Cached, isTyped, heldIn, card}
+use Rattle.demand3.specs.Demand.{Bench, Ticket, fetch, accepts, openAt, readIn, remains, waits, completions, next, seen, stateAfter, history, Completed}
+use Rattle.demand3.proofs.Theorem.{broughtIn}
+use Rattle.demands.specs.Demands.{Call, Cached, isTyped, heldIn, card}
 
 -- ---- calls on the card, each with a buffer of 24 bytes
 
@@ -67,42 +67,42 @@ abbrev pub ask : Call
 ask = simply (Ask (record { address = 0x5000; units = 1; nowrite = false })) refl
 
 abbrev pub read : Call
-read = simply (Access (record { way = Read; address = 0x5000; words = 2 })) refl
+read = simply (Access (record { direction = Read; address = 0x5000; dwords = 2 })) refl
 
 -- a completion with one translation, of a page with R and W: 10 0000h for tag 0, the same for tag 1, and 20 0000h for tag 0
 abbrev pub granted : Call
-granted = receive (four 0x4A00_0002 ++ four 0x0008_0008 ++ four 0x0000_0038 ++ four 0 ++ four 0x0010_0003) refl
+granted = receive (fourBytes 0x4A00_0002 ++ fourBytes 0x0008_0008 ++ fourBytes 0x0000_0038 ++ fourBytes 0 ++ fourBytes 0x0010_0003) refl
 
 abbrev pub grantedLate : Call
-grantedLate = receive (four 0x4A00_0002 ++ four 0x0008_0008 ++ four 0x0000_0138 ++ four 0 ++ four 0x0010_0003) refl
+grantedLate = receive (fourBytes 0x4A00_0002 ++ fourBytes 0x0008_0008 ++ fourBytes 0x0000_0138 ++ fourBytes 0 ++ fourBytes 0x0010_0003) refl
 
 abbrev pub grantedAnew : Call
-grantedAnew = receive (four 0x4A00_0002 ++ four 0x0008_0008 ++ four 0x0000_0038 ++ four 0 ++ four 0x0020_0003) refl
+grantedAnew = receive (fourBytes 0x4A00_0002 ++ fourBytes 0x0008_0008 ++ fourBytes 0x0000_0038 ++ fourBytes 0 ++ fourBytes 0x0020_0003) refl
 
 -- the first and the last four bytes of the read, and all eight at once
 abbrev pub firstPart : Call
-firstPart = receive (four 0x4A00_0001 ++ four 0x0008_0008 ++ four 0 ++ four 0x1122_3344) refl
+firstPart = receive (fourBytes 0x4A00_0001 ++ fourBytes 0x0008_0008 ++ fourBytes 0 ++ fourBytes 0x1122_3344) refl
 
 abbrev pub lastPart : Call
-lastPart = receive (four 0x4A00_0001 ++ four 0x0008_0004 ++ four 4 ++ four 0x5566_7788) refl
+lastPart = receive (fourBytes 0x4A00_0001 ++ fourBytes 0x0008_0004 ++ fourBytes 4 ++ fourBytes 0x5566_7788) refl
 
 abbrev pub bothParts : Call
-bothParts = receive (four 0x4A00_0002 ++ four 0x0008_0008 ++ four 0 ++ four 0x1122_3344 ++ four 0x5566_7788) refl
+bothParts = receive (fourBytes 0x4A00_0002 ++ fourBytes 0x0008_0008 ++ fourBytes 0 ++ fourBytes 0x1122_3344 ++ fourBytes 0x5566_7788) refl
 
 -- no data for tag 0, and status 000, which says nothing
 abbrev pub nothingSaid : Call
-nothingSaid = receive (four 0x0A00_0000 ++ four 0x0008_0008 ++ four 0) refl
+nothingSaid = receive (fourBytes 0x0A00_0000 ++ fourBytes 0x0008_0008 ++ fourBytes 0) refl
 
 -- all eight bytes for Function 0300h
 abbrev pub elsewhere : Call
-elsewhere = receive (four 0x4A00_0002 ++ four 0x0008_0008 ++ four 0x0300_0000 ++ four 0x1122_3344 ++ four 0x5566_7788) refl
+elsewhere = receive (fourBytes 0x4A00_0002 ++ fourBytes 0x0008_0008 ++ fourBytes 0x0300_0000 ++ fourBytes 0x1122_3344 ++ fourBytes 0x5566_7788) refl
 
 -- an Invalidate Request of ITag 3, from 0200h, for the page at 5000h; and one of ITag 4 from 0300h
 abbrev pub request : Call
-request = receive (four 0x7200_0002 ++ four 0x0200_0301 ++ four 0 ++ four 0 ++ four 0 ++ four 0x5000) refl
+request = receive (fourBytes 0x7200_0002 ++ fourBytes 0x0200_0301 ++ fourBytes 0 ++ fourBytes 0 ++ fourBytes 0 ++ fourBytes 0x5000) refl
 
 abbrev pub another : Call
-another = receive (four 0x7200_0002 ++ four 0x0300_0401 ++ four 0 ++ four 0 ++ four 0 ++ four 0x5000) refl
+another = receive (fourBytes 0x7200_0002 ++ fourBytes 0x0300_0401 ++ fourBytes 0 ++ fourBytes 0 ++ fourBytes 0 ++ fourBytes 0x5000) refl
 
 abbrev pub three : Ticket
 three = record { agent = 0x0200; number = 3 }
@@ -139,7 +139,7 @@ abbrev pub anew : List Call
 anew = grantedAnew ∷ ask ∷ late
 
 abbrev pub then : Bench card
-then = after card begin (request ∷ warm)
+then = stateAfter card begin (request ∷ warm)
 
 -- the page at 20 0000h
 abbrev pub fresher : Cached
@@ -152,33 +152,33 @@ large = next card begin (simply (Reset (record { id = 0; stu = 1; rcb = 64 })) r
 
 -- 8192 bytes at 10 0000h, and a read of the lower half of the unit at 4000h, of which the request names only the upper half
 abbrev pub warmLarge : List Call
-warmLarge = simply (Access (record { way = Read; address = 0x4000; words = 2 })) refl ∷ receive (four 0x4A00_0002 ++ four 0x0008_0008 ++ four 0x0000_0038 ++ four 0 ++ four 0x0010_0803) refl ∷ ask ∷ enable ∷ []
+warmLarge = simply (Access (record { direction = Read; address = 0x4000; dwords = 2 })) refl ∷ receive (fourBytes 0x4A00_0002 ++ fourBytes 0x0008_0008 ++ fourBytes 0x0000_0038 ++ fourBytes 0 ++ fourBytes 0x0010_0803) refl ∷ ask ∷ enable ∷ []
 
 -- What is to be seen there: the read is open; the request is accepted; the first drains send nothing, the ITag waits, and the same request is refused with 9; then one completion is sent,
 -- it waits no longer, and the request can come again; the old entry is gone, the old reply brings nothing; the new one brings the new page, in slot 0, and is what it came from; the old
 -- read is closed. With units of 8192 bytes the request is for the whole unit: its entry is gone at once, and the read in its lower half holds the completion back until it ends.
 pub record Happens : Type 0 where
   pub opens : readIn page (openAt 0 (history card begin warm)) ≡ some (fetch true (record { address = some 0x5000; bytes = 8 }) 8)
-  pub arrives : accepts three (seen card (after card begin warm) request .took) ≡ some page
+  pub arrives : accepts three (seen card (stateAfter card begin warm) request .took) ≡ some page
   pub holds : (completions three (history card then held) ≡ 0) × (waits 32 three (history card begin (held ++ request ∷ warm)) ≡ true)
-  pub refuses : card .answer (after card begin (held ++ request ∷ warm) .fn) request .says ≡ number 9
-  pub free : card .answer (after card begin (late ++ request ∷ warm) .fn) request .says ≡ gives done
+  pub refuses : card .answer (stateAfter card begin (held ++ request ∷ warm) .fn) request .answer ≡ refusal 9
+  pub free : card .answer (stateAfter card begin (late ++ request ∷ warm) .fn) request .answer ≡ ok done
   pub completes : (completions three (history card then late) ≡ 1) × (waits 32 three (history card begin (late ++ request ∷ warm)) ≡ false)
   pub drops : heldIn (then .fn) 0 ≡ none
-  pub ignores : heldIn (after card then late .fn) 0 ≡ none
-  pub fills : heldIn (after card then anew .fn) 0 ≡ some fresher
+  pub ignores : heldIn (stateAfter card then late .fn) 0 ≡ none
+  pub fills : heldIn (stateAfter card then anew .fn) 0 ≡ some fresher
   pub came : broughtIn card fresher then anew ≡ true
   pub closed : remains 0 (history card then late) (readIn page (openAt 0 (history card begin warm))) ≡ none
-  pub cached : heldIn (after card large warmLarge .fn) 0 ≡ some (record { stu = 1; entry = record { used = true; r = true; w = true; n = false; u = false; unit = 0x4000; to = 0x10_0000 } })
-  pub rounds : accepts three (seen card (after card large warmLarge) request .took) ≡ some (record { first = 0x4000; last = 0x5FFF })
-  pub dropsLarge : heldIn (after card large (request ∷ warmLarge) .fn) 0 ≡ none
+  pub cached : heldIn (stateAfter card large warmLarge .fn) 0 ≡ some (record { stu = 1; entry = record { used = true; r = true; w = true; n = false; u = false; unit = 0x4000; to = 0x10_0000 } })
+  pub rounds : accepts three (seen card (stateAfter card large warmLarge) request .took) ≡ some (record { first = 0x4000; last = 0x5FFF })
+  pub dropsLarge : heldIn (stateAfter card large (request ∷ warmLarge) .fn) 0 ≡ none
   pub holdsLarge : completions three (history card large (drain ∷ request ∷ warmLarge)) ≡ 0
   -- so that demand 3 has something to speak of
   pub speaks : Completed card begin warm request anew three page
   pub completesLarge : completions three (history card large (drain ∷ bothParts ∷ drain ∷ request ∷ warmLarge)) ≡ 1
 
 pub happens : Happens
-unfolding frameOf choose bodyIn shaped allowedBody withinBody loadOf formOf framed readForm reading payloadIn wordAt bytesOf writing regionOf roundedOf reachOf runOf movedTo lowestZero sizeOf translationOf firstAt runTo allTo gather translationAt found put unitDropped rangeDropped isIn joined without freeTag heldAt placed rangeOf bytesAsked touches snooped allStaled noted onBoundary startsPart secondPart partOf sizeOfAll beginsIn cameOf fitsAt allFit sizeFits judged unitFilled covered unitStep applied sending resetting enabling disabling isBelowTop isAskable asking lookingUp accessing sendingVector fetched unfetched settled translated untranslated completed snoopRange invalidated taken received calling
+unfolding decodeFrame choose bodyIn wellFormed allowedBody bodyInRange payloadLength formOf packetFrame readForm reading payloadIn qwordAt bytesOf writing regionOf roundedOf rangeFrom unitsFrom relocated lowestZero sizeOf translationOf firstIndex iterate allBelow foldMap translationAt found filledWith unitDropped rangeDropped isIn withItag without freeTag tagState setTag translationRange readRange pendingOverlaps invalidatedTags allStale delayedItags onBoundary startsPart secondPart partOf commonSize beginsIn receivedCount translationFits allFit sizeFits classified unitUpdated updatedIfCovered updatedAt applied sends resetting enabling disabling isBelowTop isAskable asking lookingUp accessing sendsVector onReadData onReadStatus appliedIfLive onTranslationData onTranslationStatus completed invalidatedRange invalidated taken received calling
 happens =
     record {
       opens = refl;

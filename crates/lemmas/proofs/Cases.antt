@@ -5,6 +5,10 @@ use Prim.Native.Nat.{ℕ}
 use native.Mathlib.Omega.{arith}
 use borrow.Author.Tests.{lt-ltb, le-ltb, le-leb, lt-leb, eq-eqb, ne-eqb}
 
+-- From 0 ≡ 1, which `cc` finds where two constructors are said to be equal, anything follows.
+pub impossible : {A : Type 0} → _≡_ {A = ℕ} 0 1 → A
+impossible e = absurd (omega (arith, e))
+
 pub take-case : {A : Type 0} (t : Bool) (a b x : A) → t ≡ true → x ≡ a → x ≡ cond t a b
 take-case t a b x e q = q ∙ sym (ap (λ (u : Bool). cond u a b) e)
 
@@ -31,10 +35,10 @@ either-case P false a b f g = g refl
 
 pub and-both : (t u : Bool) → (t && u) ≡ true → (t ≡ true) × (u ≡ true)
 and-both true u e = (refl, e)
-and-both false u e = let z : _≡_ {A = ℕ} 0 1 = cc in absurd (omega arith)
+and-both false u e = impossible cc
 
 pub never-both : (t : Bool) → t ≡ true → t ≡ false → ⊥
-never-both t e g = let z : _≡_ {A = ℕ} 0 1 = cc in omega arith
+never-both t e g = impossible cc
 
 pub is-false : (t : Bool) → (t ≡ true → ⊥) → t ≡ false
 is-false true h = absurd (h refl)

@@ -9,47 +9,47 @@ use native.Mathlib.Omega.{arith}
 use lib.ListN.{length, getD, set, drop}
 use lib.Seq.{drop-cons, drop-length}
 use Rattle.lemmas.proofs.Cases.{byCases}
-use Rattle.lemmas.specs.First.{firstAt}
+use Rattle.lemmas.specs.First.{firstIndex}
 
 module _ {A : Type 0} (p : A → Bool) (l : List A) where
   -- a search that stands at i: none of the first i passes
-  pub first-start : firstAt p l ≡ 0 + firstAt p (drop 0 l)
-  first-start = sym (zero-add (firstAt p l))
+  pub first-start : firstIndex p l ≡ 0 + firstIndex p (drop 0 l)
+  first-start = sym (zero-add (firstIndex p l))
 
-  pub first-step : (i : ℕ) (d : A) → i < length l → p (getD l i d) ≡ false → firstAt p l ≡ i + firstAt p (drop i l) → firstAt p l ≡ (i + 1) + firstAt p (drop (i + 1) l)
-  unfolding firstAt
+  pub first-step : (i : ℕ) (d : A) → i < length l → p (getD l i d) ≡ false → firstIndex p l ≡ i + firstIndex p (drop i l) → firstIndex p l ≡ (i + 1) + firstIndex p (drop (i + 1) l)
+  unfolding firstIndex
   first-step i d h e inv = inv ∙ rw (drop-cons l i d h, e, add-one i) (omega arith)
 
-  pub first-here : (i : ℕ) (d : A) → i < length l → p (getD l i d) ≡ true → firstAt p l ≡ i + firstAt p (drop i l) → i ≡ firstAt p l
-  unfolding firstAt
+  pub first-here : (i : ℕ) (d : A) → i < length l → p (getD l i d) ≡ true → firstIndex p l ≡ i + firstIndex p (drop i l) → i ≡ firstIndex p l
+  unfolding firstIndex
   first-here i d h e inv = sym (inv ∙ rw (drop-cons l i d h, e) (add-zero i))
 
-  pub first-end : (i : ℕ) → length l ≡ i → firstAt p l ≡ i + firstAt p (drop i l) → i ≡ firstAt p l
-  unfolding firstAt
+  pub first-end : (i : ℕ) → length l ≡ i → firstIndex p l ≡ i + firstIndex p (drop i l) → i ≡ firstIndex p l
+  unfolding firstIndex
   first-end i e inv = sym (inv ∙ rw (← e, drop-length l) (add-zero (length l)))
 
-pub first-le : {A : Type 0} (p : A → Bool) (l : List A) → firstAt p l ≤ length l
-unfolding firstAt
+pub first-le : {A : Type 0} (p : A → Bool) (l : List A) → firstIndex p l ≤ length l
+unfolding firstIndex
 first-le p [] = omega arith
 first-le p (x ∷ xs) = go (p x) (first-le p xs)
   where
-    go : (b : Bool) → firstAt p xs ≤ length xs → cond b zero (suc (firstAt p xs)) ≤ suc (length xs)
+    go : (b : Bool) → firstIndex p xs ≤ length xs → cond b zero (suc (firstIndex p xs)) ≤ suc (length xs)
     go true h = omega arith
     go false h = omega arith
 
 -- what is found passes the test
-pub first-holds : {A : Type 0} (p : A → Bool) (l : List A) (d : A) → firstAt p l < length l → p (getD l (firstAt p l) d) ≡ true
-unfolding firstAt
+pub first-holds : {A : Type 0} (p : A → Bool) (l : List A) (d : A) → firstIndex p l < length l → p (getD l (firstIndex p l) d) ≡ true
+unfolding firstIndex
 first-holds p [] d h = absurd (omega arith)
 first-holds p (x ∷ xs) d h = go (p x) refl (λ k. first-holds p xs d k) h
   where
-    go : (b : Bool) → p x ≡ b → (firstAt p xs < length xs → p (getD xs (firstAt p xs) d) ≡ true) → cond b zero (suc (firstAt p xs)) < suc (length xs) → p (getD (x ∷ xs) (cond b zero (suc (firstAt p xs))) d) ≡ true
+    go : (b : Bool) → p x ≡ b → (firstIndex p xs < length xs → p (getD xs (firstIndex p xs) d) ≡ true) → cond b zero (suc (firstIndex p xs)) < suc (length xs) → p (getD (x ∷ xs) (cond b zero (suc (firstIndex p xs))) d) ≡ true
     go true e f k = e
     go false e f k = f (omega arith)
 
 -- and is the first to
-pub first-least : {A : Type 0} (p : A → Bool) (l : List A) (d : A) (i : ℕ) → p (getD l i d) ≡ true → firstAt p l ≤ i
-unfolding firstAt
+pub first-least : {A : Type 0} (p : A → Bool) (l : List A) (d : A) (i : ℕ) → p (getD l i d) ≡ true → firstIndex p l ≤ i
+unfolding firstIndex
 first-least p [] d i e = omega arith
 first-least p (x ∷ xs) d zero e = rw e (omega arith)
 first-least p (x ∷ xs) d (suc i) e =
@@ -57,8 +57,8 @@ first-least p (x ∷ xs) d (suc i) e =
 
 module _ {A : Type 0} (p : A → Bool) where
   -- what is stored where none before it passes is found if it passes,
-  pub first-set : (l : List A) (k : ℕ) (y : A) → k < length l → k ≤ firstAt p l → p y ≡ true → firstAt p (set l k y) ≡ k
-  unfolding firstAt
+  pub first-set : (l : List A) (k : ℕ) (y : A) → k < length l → k ≤ firstIndex p l → p y ≡ true → firstIndex p (set l k y) ≡ k
+  unfolding firstIndex
   first-set [] k y h g e = absurd (not-suc-le-zero h)
   first-set (x ∷ xs) zero y h g e = rw e
   first-set (x ∷ xs) (suc k) y h g e =
@@ -67,13 +67,13 @@ module _ {A : Type 0} (p : A → Bool) where
       (λ t. rw (t, first-set xs k y (le-of-suc-le-suc h) (le-of-suc-le-suc (rw t at g)) e))
 
   -- and what does not pass changes nothing in the place of what does not
-  pub first-other : (l : List A) (k : ℕ) (y d : A) → p (getD l k d) ≡ false → p y ≡ false → firstAt p (set l k y) ≡ firstAt p l
-  unfolding firstAt
+  pub first-other : (l : List A) (k : ℕ) (y d : A) → p (getD l k d) ≡ false → p y ≡ false → firstIndex p (set l k y) ≡ firstIndex p l
+  unfolding firstIndex
   first-other [] k y d e g = refl
   first-other (x ∷ xs) zero y d e g = rw (e, g)
   first-other (x ∷ xs) (suc k) y d e g = rw (first-other xs k y d e g)
 
-  pub first-map : (f : A → A) → ((x : A) → p (f x) ≡ p x) → (l : List A) → firstAt p (map f l) ≡ firstAt p l
-  unfolding firstAt
+  pub first-map : (f : A → A) → ((x : A) → p (f x) ≡ p x) → (l : List A) → firstIndex p (map f l) ≡ firstIndex p l
+  unfolding firstIndex
   first-map f h [] = refl
   first-map f h (x ∷ xs) = rw (h x, first-map f h xs)

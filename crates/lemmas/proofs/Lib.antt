@@ -2,8 +2,8 @@ pub mod Cases
 pub mod Powers
 pub mod First
 pub mod Maps
-pub mod Gather
-pub mod Run
+pub mod Fold
+pub mod Iterate
 pub mod All
 pub mod Tests
 pub mod Bits

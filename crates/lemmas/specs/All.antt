@@ -2,6 +2,6 @@
 use mathlib.Core.Bool.{Bool, true, _&&_}
 use Prim.Native.Nat.{ℕ, zero, suc}
 
-unfoldable pub allTo : (ℕ → Bool) → ℕ → Bool
-allTo p zero = true
-allTo p (suc k) = allTo p k && p k
+unfoldable pub allBelow : (ℕ → Bool) → ℕ → Bool
+allBelow p zero = true
+allBelow p (suc k) = allBelow p k && p k

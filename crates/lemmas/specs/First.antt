@@ -4,6 +4,6 @@ use mathlib.Core.List.{List, [], _∷_}
 use Prim.Native.Nat.{ℕ, zero, suc}
 
 -- the index of the first element that passes the test, and the length where none does
-unfoldable pub firstAt : {A : Type 0} → (A → Bool) → List A → ℕ
-firstAt p [] = zero
-firstAt p (x ∷ xs) = cond (p x) zero (suc (firstAt p xs))
+unfoldable pub firstIndex : {A : Type 0} → (A → Bool) → List A → ℕ
+firstIndex p [] = zero
+firstIndex p (x ∷ xs) = cond (p x) zero (suc (firstIndex p xs))

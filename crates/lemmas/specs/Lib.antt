@@ -1,4 +1,4 @@
 pub mod First
-pub mod Gather
-pub mod Run
+pub mod Fold
+pub mod Iterate
 pub mod All

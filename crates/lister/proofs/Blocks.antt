@@ -13,12 +13,12 @@ use Rattle.rows.specs.Rows.{rowIn}
 use Rattle.rows.proofs.Short.{outLine-short}
 use Rattle.lister.specs.declared.Progress.{Progress}
 use Rattle.lister.specs.Line.{lineRead, lineText}
-use Rattle.lister.specs.Stream.{printed, numberAfter, startAfter, lastText, cut}
-use Rattle.lister.specs.Pieces.{begun, startIn, takes, left, fed, finished}
-use Rattle.lister.specs.Cuts.{joined}
+use Rattle.lister.specs.Stream.{printed, numberAfter, startAfter, lastText, first289}
+use Rattle.lister.specs.Pieces.{initialProgress, startIn, takes, left, fed, finished}
+use Rattle.lister.specs.Cuts.{concat}
 use Rattle.lister.proofs.Cuts.{inPieces, any-pieces}
 use Rattle.lister.proofs.Calls.{start-kept}
-use Rattle.lister.specs.Blocks.{handedOut, NoneOver, AnyBlocks}
+use Rattle.lister.specs.Blocks.{handedOut, AllAtMost, AnyBlocks}
 
 -- ---- one step
 
@@ -70,16 +70,16 @@ fed-whole from hold b out h room few = rw (le-ltb (length hold) 289 h, takes-all
 -- ---- every step
 
 -- the joined parts, for a line of which p is held
-parts : (n : ℕ) (from : Progress) (hold out p : List ℕ) (bs : List (List ℕ)) → 289 ≤ length hold → 64 ≤ length out → n * 64 ≤ length out → NoneOver n bs
-    → from .number + length (joined bs) < 2 ^ 64 → startIn (from .held) hold ≡ p → joined (handedOut from hold out bs) ≡ inPieces (from .number) p bs
-unfolding handedOut inPieces joined NoneOver finished rowIn
+parts : (n : ℕ) (from : Progress) (hold out p : List ℕ) (bs : List (List ℕ)) → 289 ≤ length hold → 64 ≤ length out → n * 64 ≤ length out → AllAtMost n bs
+    → from .number + length (concat bs) < 2 ^ 64 → startIn (from .held) hold ≡ p → concat (handedOut from hold out bs) ≡ inPieces (from .number) p bs
+unfolding handedOut inPieces concat AllAtMost finished rowIn
 parts n from hold out p [] h o r all few e =
     rw (e, le-ltb (length out) 64 o) (append-nil _ ∙ take-at (lastText (from .number) p) (drop (length (lastText (from .number) p)) out) (length (lastText (from .number) p)) refl)
 parts n from hold out p (b ∷ bs) h o r all few e =
-    let total = length-append b (joined bs) in
+    let total = length-append b (concat bs) in
     let room : length b * 64 ≤ length out = omega (arith, all .0) in
     let most = numberAfter-most (from .number) b in
-    let s = cut (startAfter p b) in
+    let s = first289 (startAfter p b) in
     let text = printed (from .number) p b in
     let held : length s ≤ length hold = rw length-take (omega arith) in
     let short : length text ≤ length out = let q = printed-short (from .number) p b in omega arith in
@@ -88,4 +88,4 @@ parts n from hold out p (b ∷ bs) h o r all few e =
     rw (fed-whole from hold b out h room (omega arith), e, take-at text (drop (length text) out) (length text) refl, again)
 
 pub any-blocks : AnyBlocks
-any-blocks n hold out bs f = parts n begun hold out [] bs (f .0) (f .1) (f .2) (f .3) (f .4) refl ∙ any-pieces bs
+any-blocks n hold out bs f = parts n initialProgress hold out [] bs (f .0) (f .1) (f .2) (f .3) (f .4) refl ∙ any-pieces bs

@@ -10,7 +10,7 @@ use lib.Seq.{take-at}
 use Rattle.rows.proofs.Laying.{start-within, row-within}
 use Rattle.lister.specs.declared.Progress.{Progress}
 use Rattle.lister.specs.declared.Fed.{Fed}
-use Rattle.lister.specs.Stream.{printed, lastText, cut}
+use Rattle.lister.specs.Stream.{printed, lastText, first289}
 use Rattle.lister.specs.Pieces.{startIn, takes, fed, finished}
 
 module _ (from : Progress) (hold block out : List ℕ) (r : Fed) (h o : List ℕ) (e : (r, h, o) ≡ fed from hold block out) where
@@ -25,7 +25,7 @@ unfolding finished
 finish-readies from hold out n o e l = row-within (lastText (from .number) (startIn (from .held) hold)) out n o e l
 
 -- what is held after a piece is the start of the line that the piece left
-pub start-kept : (s hold : List ℕ) → startIn (length (cut s)) (cut s ++ drop (length (cut s)) hold) ≡ cut s
+pub start-kept : (s hold : List ℕ) → startIn (length (first289 s)) (first289 s ++ drop (length (first289 s)) hold) ≡ first289 s
 start-kept s hold =
-    let few : length (cut s) ≤ 289 = rw length-take (min-le-left 289 (length s)) in
-    rw (min-eq-left few) (take-at (cut s) (drop (length (cut s)) hold) (length (cut s)) refl)
+    let few : length (first289 s) ≤ 289 = rw length-take (min-le-left 289 (length s)) in
+    rw (min-eq-left few) (take-at (first289 s) (drop (length (first289 s)) hold) (length (first289 s)) refl)

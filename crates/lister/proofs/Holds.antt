@@ -13,33 +13,33 @@ use Rattle.rows.specs.Rows.{outLine, rowIn}
 use Rattle.lister.specs.declared.Progress.{Progress}
 use Rattle.lister.specs.Line.{lineRead, lineText}
 use Rattle.rows.specs.Places.{Laid}
-use Rattle.lister.specs.Stream.{printed, numberAfter, startAfter, lastText, cut}
+use Rattle.lister.specs.Stream.{printed, numberAfter, startAfter, lastText, first289}
 use Rattle.lister.proofs.Cuts.{lineText-cut}
 use Rattle.lister.specs.Pieces.{startIn, takes, fed, finished}
 use Rattle.rows.proofs.Laying.{then, laid-start, laid-after, at-start, row-none}
 
-cut-after : (p cs : List ℕ) → length p ≤ 289 → p ++ take (289 - length p) cs ≡ cut (p ++ cs)
+cut-after : (p cs : List ℕ) → length p ≤ 289 → p ++ take (289 - length p) cs ≡ first289 (p ++ cs)
 cut-after p cs h =
     let e : 289 ≡ length p + (289 - length p) = omega arith in
     sym (ap (λ (n : ℕ). take n (p ++ cs)) e ∙ take-append-add p cs (289 - length p))
 
 -- a line of which p was held, put together in an empty row
-pub held-cut : (p cs l₀ l₁ l₂ : List ℕ) (a n : ℕ) → length p ≤ 289 → Laid 0 (take 289 p) l₀ a l₁ → Laid a (take (289 - a) cs) l₁ n l₂ → take n l₂ ≡ cut (p ++ cs)
+pub held-cut : (p cs l₀ l₁ l₂ : List ℕ) (a n : ℕ) → length p ≤ 289 → Laid 0 (take 289 p) l₀ a l₁ → Laid a (take (289 - a) cs) l₁ n l₂ → take n l₂ ≡ first289 (p ++ cs)
 held-cut p cs l₀ l₁ l₂ a n h f g =
     let f′ = rw (take-all 289 p h) at f in
     let e : a ≡ length p = f′ .0 ∙ zero-add (length p) in
     laid-start (p ++ take (289 - a) cs) l₀ n l₂ (then 0 p (take (289 - a) cs) l₀ a l₁ n l₂ zero-le f′ g) ∙ rw e (cut-after p cs h)
 
-pub line-out : (k : ℕ) (cs : List ℕ) → outLine k (lineRead (cut cs)) ≡ lineText k cs
+pub line-out : (k : ℕ) (cs : List ℕ) → outLine k (lineRead (first289 cs)) ≡ lineText k cs
 unfolding lineText
 line-out k cs = sym (lineText-cut k cs)
 
 -- characters put after those that are held
 pub kept-cut : (held : ℕ) (hold cs : List ℕ) (n : ℕ) (m : List ℕ) → held ≤ 289 → held ≤ length hold → Laid held (take (289 - held) cs) hold n m
-    → Laid 0 (cut (take held hold ++ cs)) hold n m
+    → Laid 0 (first289 (take held hold ++ cs)) hold n m
 kept-cut held hold cs n m h l p =
     let e : length (take held hold) ≡ held = length-take-le held hold l in
-    let c : take held hold ++ take (289 - held) cs ≡ cut (take held hold ++ cs) = rw e at (cut-after (take held hold) cs (omega arith)) in
+    let c : take held hold ++ take (289 - held) cs ≡ first289 (take held hold ++ cs) = rw e at (cut-after (take held hold) cs (omega arith)) in
     rw c at (laid-after held (take (289 - held) cs) hold n m l p)
 
 -- ---- what is held at first
@@ -78,11 +78,11 @@ fed-none from hold block out s short e h =
 
 pub fed-some : (from : Progress) (hold block out : List ℕ) (s t n h w : ℕ) (hold′ out′ : List ℕ) → 289 ≤ length hold → take s hold ≡ startIn (from .held) hold
     → t ≡ takes (from .number) (length block) (length out) → n ≡ numberAfter (from .number) (take t block)
-    → Laid 0 (cut (startAfter (take s hold) (take t block))) hold h hold′ → Laid 0 (printed (from .number) (take s hold) (take t block)) out w out′
+    → Laid 0 (first289 (startAfter (take s hold) (take t block))) hold h hold′ → Laid 0 (printed (from .number) (take s hold) (take t block)) out w out′
     → (record { progress = record { number = n; held = h }; taken = t; ready = w }, hold′, out′) ≡ fed from hold block out
 unfolding fed
 fed-some from hold block out s t n h w hold′ out′ room e f m a b =
-    let x = at-start (cut (startAfter (take s hold) (take t block))) hold h hold′ a in
+    let x = at-start (first289 (startAfter (take s hold) (take t block))) hold h hold′ a in
     let y = at-start (printed (from .number) (take s hold) (take t block)) out w out′ b in
     rw (le-ltb (length hold) 289 room, ← f, ← e) (λ i. (record { progress = record { number = m i; held = x i .0 }; taken = t; ready = y i .0 }, x i .1, y i .1))
 

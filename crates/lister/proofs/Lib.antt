@@ -1,7 +1,7 @@
 pub mod Cuts
 pub mod Calls
 pub mod Blocks
-pub mod Told
+pub mod Injective
 pub mod Spelled
 pub mod Feeds
 pub mod Holds

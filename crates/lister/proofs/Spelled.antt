@@ -6,7 +6,7 @@ use native.Mathlib.Omega.{arith}
 use lib.ListN.{length, take}
 use lib.Seq.{take-all, take-take, getD-take, length-take-le}
 use borrow.Author.Tests.{le-ltb, eq-eqb}
-use Rattle.packet.specs.Numbers.{number, demand}
+use Rattle.packet.specs.Numbers.{refusal, check}
 use Rattle.packet.specs.Reading.{reading}
 use Rattle.text.specs.Digits.{allHex, unhex}
 use Rattle.lister.specs.Line.{lineRead}
@@ -14,7 +14,7 @@ use Rattle.lister.specs.Runs.{HexRun}
 use Rattle.text.proofs.Pairs.{no-byte}
 
 -- a line of 288 characters or fewer, an even number of them
-even-line : (cs : List ℕ) → length cs ≤ 288 → length cs % 2 ≡ 0 → lineRead cs ≡ demand 0 (allHex cs) (reading (unhex cs))
+even-line : (cs : List ℕ) → length cs ≤ 288 → length cs % 2 ≡ 0 → lineRead cs ≡ check 0 (allHex cs) (reading (unhex cs))
 unfolding lineRead
 even-line cs h e = rw (le-ltb 288 (length cs) h, eq-eqb (length cs % 2) 0 e)
 
@@ -24,7 +24,7 @@ module _ (cs bytes : List ℕ) (n : ℕ) (h : length cs ≤ 288) (e : length cs 
       let all : take (n * 2) cs ≡ cs = take-all (n * 2) cs (omega arith) in
       even-line cs h e ∙ rw (rw all at (r .3), r .4, all)
 
-  pub read-none : (n * 2 ≡ length cs → ⊥) → lineRead cs ≡ number 0
+  pub read-none : (n * 2 ≡ length cs → ⊥) → lineRead cs ≡ refusal 0
   read-none w =
       let less : n * 2 < length cs = omega arith in
       even-line cs h e ∙ rw (no-byte cs (n * 2) (r .3) (omega arith) (r .5 (omega arith) (omega arith)))

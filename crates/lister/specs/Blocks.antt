@@ -5,8 +5,8 @@ use mathlib.Core.List.{List, [], _∷_}
 use lib.ListN.{length, take}
 use Rattle.lister.specs.declared.Progress.{Progress}
 use Rattle.lister.specs.Stream.{listing}
-use Rattle.lister.specs.Pieces.{begun, fed, finished}
-use Rattle.lister.specs.Cuts.{joined}
+use Rattle.lister.specs.Pieces.{initialProgress, fed, finished}
+use Rattle.lister.specs.Cuts.{concat}
 
 -- The parts that are handed out, one for each block and one at the end: after each call the first bytes of out, as many as are ready.
 unfoldable pub handedOut : Progress → List ℕ → List ℕ → List (List ℕ) → List (List ℕ)
@@ -17,14 +17,14 @@ handedOut from hold out (b ∷ bs) =
     let step = fed from hold b out in
     take (step .0 .ready) (step .2) ∷ handedOut (step .0 .progress) (step .1) (step .2) bs
 
-unfoldable pub NoneOver : ℕ → List (List ℕ) → Type 0
-NoneOver n [] = Unit {0}
-NoneOver n (b ∷ bs) = (length b ≤ n) × NoneOver n bs
+unfoldable pub AllAtMost : ℕ → List (List ℕ) → Type 0
+AllAtMost n [] = Unit {0}
+AllAtMost n (b ∷ bs) = (length b ≤ n) × AllAtMost n bs
 
 -- Blocks of at most n characters, buffers that are large enough for them, and fewer than 2^64 - 1 characters in all.
-abbrev pub Fits : ℕ → List ℕ → List ℕ → List (List ℕ) → Type 0
-Fits n hold out bs = (289 ≤ length hold) × (64 ≤ length out) × (n * 64 ≤ length out) × NoneOver n bs × (1 + length (joined bs) < 2 ^ 64)
+abbrev pub BlocksFit : ℕ → List ℕ → List ℕ → List (List ℕ) → Type 0
+BlocksFit n hold out bs = (289 ≤ length hold) × (64 ≤ length out) × (n * 64 ≤ length out) × AllAtMost n bs × (1 + length (concat bs) < 2 ^ 64)
 
 -- the parts handed out, joined, are the listing of the blocks joined
 abbrev pub AnyBlocks : Type 0
-AnyBlocks = (n : ℕ) (hold out : List ℕ) (bs : List (List ℕ)) → Fits n hold out bs → joined (handedOut begun hold out bs) ≡ listing (joined bs)
+AnyBlocks = (n : ℕ) (hold out : List ℕ) (bs : List (List ℕ)) → BlocksFit n hold out bs → concat (handedOut initialProgress hold out bs) ≡ listing (concat bs)

@@ -2,6 +2,6 @@
 use Prim.Native.Nat.{ℕ}
 use mathlib.Core.List.{List, [], _∷_, _++_}
 
-unfoldable pub joined : List (List ℕ) → List ℕ
-joined [] = []
-joined (b ∷ bs) = b ++ joined bs
+unfoldable pub concat : List (List ℕ) → List ℕ
+concat [] = []
+concat (b ∷ bs) = b ++ concat bs

@@ -4,7 +4,7 @@ use mathlib.Core.List.{List}
 use lib.ListN.{length}
 use lib.Dec.{ltb, eqb}
 use Rattle.packet.specs.declared.Packet.{Packet}
-use Rattle.packet.specs.Numbers.{Said, gives, number, numberOf, refuse, demand}
+use Rattle.packet.specs.Numbers.{Result, ok, refusal, numberOf, refuse, check}
 use Rattle.packet.specs.Reading.{reading}
 use Rattle.text.specs.Digits.{allHex, unhex}
 use Rattle.rows.specs.Rows.{outLine}
@@ -12,18 +12,18 @@ use Rattle.lister.specs.declared.Line.{Line}
 use Rattle.lister.specs.declared.Line.the-variants.{Read, Refused, Unreadable}
 
 -- The length is tested before the characters: more than 288 of them give 1. What is no hex, by its count or by one of its characters, gives 0. Bytes are then read as a packet.
-unfoldable pub lineRead : List ℕ → Said Packet
+unfoldable pub lineRead : List ℕ → Result Packet
 lineRead cs =
     refuse 1 (ltb 288 (length cs))
-    (demand 0 (eqb (length cs % 2) 0)
-    (demand 0 (allHex cs)
+    (check 0 (eqb (length cs % 2) 0)
+    (check 0 (allHex cs)
     (reading (unhex cs))))
 
--- what the paper says of a line
-abbrev pub paperLine : Line → Said Packet
-paperLine (Read p) = gives p
-paperLine (Refused r) = number (numberOf r)
-paperLine Unreadable = number 0
+-- the result that a line stands for
+abbrev pub lineResult : Line → Result Packet
+lineResult (Read p) = ok p
+lineResult (Refused r) = refusal (numberOf r)
+lineResult Unreadable = refusal 0
 
 -- the whole output line of line k
 unfoldable pub lineText : ℕ → List ℕ → List ℕ

@@ -8,11 +8,11 @@ use lib.ListN.{length, take, getD}
 use Rattle.lister.specs.declared.Progress.{Progress}
 use Rattle.lister.specs.declared.Fed.{Fed}
 use Rattle.rows.specs.Rows.{atStart, rowIn}
-use Rattle.lister.specs.Stream.{printed, numberAfter, startAfter, lastText, cut}
+use Rattle.lister.specs.Stream.{printed, numberAfter, startAfter, lastText, first289}
 
 -- before the first block: line 1, of which nothing is held
-abbrev pub begun : Progress
-begun = record { number = 1; held = 0 }
+abbrev pub initialProgress : Progress
+initialProgress = record { number = 1; held = 0 }
 
 -- what is held of the line that is not finished
 abbrev pub startIn : ℕ → List ℕ → List ℕ
@@ -25,7 +25,7 @@ takes k n room = min (min n (room / 64)) (2 ^ 64 - 1 - k)
 -- the t characters b were taken, and p was held: what is answered, and what hold and out then have
 abbrev pub left : ℕ → List ℕ → List ℕ → List ℕ → List ℕ → ℕ → Fed × List ℕ × List ℕ
 left k p hold b out t =
-    let start = atStart (cut (startAfter p b)) hold in
+    let start = atStart (first289 (startAfter p b)) hold in
     let text = atStart (printed k p b) out in
     (record { progress = record { number = numberAfter k b; held = start .0 }; taken = t; ready = text .0 }, start .1, text .1)
 

@@ -31,5 +31,5 @@ unfoldable pub listing : List ℕ → List ℕ
 listing cs = printed 1 [] cs ++ lastText (numberAfter 1 cs) (startAfter [] cs)
 
 -- Of a line of more than 288 characters it only matters that it has more: its first 289 stand for it.
-abbrev pub cut : List ℕ → List ℕ
-cut p = take 289 p
+abbrev pub first289 : List ℕ → List ℕ
+first289 p = take 289 p

@@ -7,10 +7,10 @@ use packet::Reading;
 use packet::Refusal;
 ghost use mathlib.Core.Path.{_≡_};
 ghost use Rattle.rows.specs.Rows.{outLine, rowIn};
-ghost use Rattle.packet.specs.Reading.{paperRead};
-ghost use Rattle.lister.specs.Line.{paperLine, lineRead, lineText};
+ghost use Rattle.packet.specs.Reading.{readResult};
+ghost use Rattle.lister.specs.Line.{lineResult, lineRead, lineText};
 ghost use Rattle.lister.specs.Runs.{HexRun};
-ghost use Rattle.lister.specs.Pieces.{begun, fed, finished};
+ghost use Rattle.lister.specs.Pieces.{initialProgress, fed, finished};
 
 // What a line says: a packet; a refusal, which for a line too long is the packet's own; or
 // characters that are no bytes in hex.
@@ -21,7 +21,7 @@ pub enum Line {
 }
 
 fn line_of(r: Reading) -> Line
-    ensures { λ l. ⌜ paperLine l ≡ paperRead r ⌝ }
+    ensures { λ l. ⌜ lineResult l ≡ readResult r ⌝ }
 {
     match r {
         Reading::Read(p) => Line::Read(p),
@@ -32,10 +32,10 @@ fn line_of(r: Reading) -> Line
 // What a line says of which n bytes were spelled.
 pub(crate) fn read_run(line: &[u8], n: usize, bytes: &[u8]) -> Line
     requires { ⌜ HexRun (now line) n (now bytes) ⌝ }
-    ensures { λ r. ⌜ paperLine r ≡ lineRead (now (line .entry)) ⌝ }
+    ensures { λ r. ⌜ lineResult r ≡ lineRead (now (line .entry)) ⌝ }
 {
     if 288 < line.len() {
-        return Line::Refused(Refusal::Length);
+        return Line::Refused(Refusal::BadLength);
     }
     if line.len() % 2 != 0 {
         return Line::Unreadable;
@@ -47,7 +47,7 @@ pub(crate) fn read_run(line: &[u8], n: usize, bytes: &[u8]) -> Line
 }
 
 pub fn read_line(line: &[u8]) -> Line
-    ensures { λ r. ⌜ paperLine r ≡ lineRead (now (line .entry)) ⌝ }
+    ensures { λ r. ⌜ lineResult r ≡ lineRead (now (line .entry)) ⌝ }
 {
     let values = text::hex_values();
     let mut bytes = [0u8; 144];
@@ -56,7 +56,7 @@ pub fn read_line(line: &[u8]) -> Line
 }
 
 fn put_row(number: u64, line: Line, out: &mut [u8]) -> usize
-    ensures { λ r. ⌜ (r, now (out .exit)) ≡ rowIn (outLine number (paperLine line)) (now (out .entry)) ⌝ }
+    ensures { λ r. ⌜ (r, now (out .exit)) ≡ rowIn (outLine number (lineResult line)) (now (out .entry)) ⌝ }
 {
     match line {
         Line::Read(p) => rows::packet_row(number, p, out),
@@ -65,7 +65,7 @@ fn put_row(number: u64, line: Line, out: &mut [u8]) -> usize
     }
 }
 
-// The output line of line `number`, at the start of `out`, and its length. An `out` of fewer than 64
+// The output line of line `refusal`, at the start of `out`, and its length. An `out` of fewer than 64
 // bytes, which is more than any line takes, is left as it was.
 pub fn list_line(number: u64, line: &[u8], out: &mut [u8]) -> usize
     ensures { λ r. ⌜ (r, now (out .exit)) ≡ rowIn (lineText number (now (line .entry))) (now (out .entry)) ⌝ }
@@ -82,7 +82,7 @@ pub struct Progress {
 
 // Before the first block.
 pub fn start() -> Progress
-    ensures { λ r. ⌜ r ≡ begun ⌝ }
+    ensures { λ r. ⌜ r ≡ initialProgress ⌝ }
 {
     Progress { number: 1, held: 0 }
 }
@@ -96,8 +96,8 @@ pub struct Fed {
 }
 
 // Takes the next block of the input, as much of it as `out` has room for at 64 bytes a character. The
-// first `held` characters of `hold` are the start of line `number`; of a line that is too long they are
-// the first 289, which show that it is. A `hold` that has no room for these takes nothing.
+// first `held` characters of `set_tag` are the start of line `refusal`; of a line that is too long they are
+// the first 289, which show that it is. A `set_tag` that has no room for these takes nothing.
 pub fn feed(from: Progress, hold: &mut [u8], block: &[u8], out: &mut [u8]) -> Fed
     ensures { λ r. ⌜ (r, now (hold .exit), now (out .exit)) ≡ fed from (now (hold .entry)) (now (block .entry)) (now (out .entry)) ⌝ }
 {

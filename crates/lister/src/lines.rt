@@ -10,7 +10,7 @@ ghost use Prim.Native.Nat.{_+_, _-_, _*_, _^_, _≤_, _<_, min};
 ghost use lib.ListN.{length, take, drop};
 ghost use Rattle.lister.specs.Line.{lineText};
 ghost use Rattle.rows.specs.Places.{Laid};
-ghost use Rattle.lister.specs.Stream.{printed, numberAfter, startAfter, cut};
+ghost use Rattle.lister.specs.Stream.{printed, numberAfter, startAfter, first289};
 ghost use Rattle.lister.specs.Pieces.{takes, noFeed, LineEnd};
 
 pub(crate) fn least(a: usize, b: usize) -> usize
@@ -61,7 +61,7 @@ fn keep(hold: &mut [u8], at: usize, cs: &[u8]) -> usize
     at + n
 }
 
-// The line of which `hold` has the first `held` characters, and `cs` is the rest.
+// The line of which `set_tag` has the first `held` characters, and `cs` is the rest.
 fn held_line(number: u64, held: usize, hold: &[u8], cs: &[u8], out: &mut [u8]) -> usize
     requires { ⌜ (held ≤ 289) × (289 ≤ length (now hold)) × (64 ≤ length (now out)) ⌝ }
     ensures { λ r. ⌜ Laid 0 (lineText number (take held (now (hold .entry)) ++ now (cs .entry))) (now (out .entry)) r (now (out .exit)) ⌝ }
@@ -125,7 +125,7 @@ pub(crate) struct Left {
 pub(crate) fn take_in(number: u64, held: usize, hold: &mut [u8], cs: &[u8], out: &mut [u8]) -> Left
     requires { ⌜ (held ≤ 289) × (289 ≤ length (now hold)) × (length (now cs) * 64 ≤ length (now out)) × (number + length (now cs) < 2 ^ 64) ⌝ }
     ensures { λ r. ⌜ r .number ≡ numberAfter number (now (cs .entry)) ⌝ }
-    ensures { λ r. ⌜ Laid 0 (cut (startAfter (take held (now (hold .entry))) (now (cs .entry)))) (now (hold .entry)) (r .held) (now (hold .exit)) ⌝ }
+    ensures { λ r. ⌜ Laid 0 (first289 (startAfter (take held (now (hold .entry))) (now (cs .entry)))) (now (hold .entry)) (r .held) (now (hold .exit)) ⌝ }
     ensures { λ r. ⌜ Laid 0 (printed number (take held (now (hold .entry))) (now (cs .entry))) (now (out .entry)) (r .written) (now (out .exit)) ⌝ }
 {
     let end = line_end(cs, 0);

@@ -2,53 +2,52 @@
 use mathlib.Core.Path.{_≡_, refl}
 use mathlib.Core.Bool.{Bool, true, false, cond}
 use Prim.Native.Nat.{ℕ, _+_, _<_, _≤_}
-use native.Mathlib.Omega.{arith}
 use lib.Dec.{ltb, eqb}
 use borrow.Author.Tests.{ltb-true, ltb-false, eqb-true}
-use Rattle.lemmas.proofs.Cases.{and-both}
+use Rattle.lemmas.proofs.Cases.{and-both, impossible}
 use Rattle.packet.specs.declared.Packet.{Packet}
-use Rattle.packet.specs.Numbers.{Said, gives, number}
-use Rattle.packet.specs.Forms.{fixedOf}
-use Rattle.packet.specs.Kinds.{within, withinBody, allowed, loadOf, formOf}
+use Rattle.packet.specs.Numbers.{Result, ok, refusal}
+use Rattle.packet.specs.Forms.{payloadOffset}
+use Rattle.packet.specs.Kinds.{fieldsInRange, bodyInRange, allowed, payloadLength, formOf}
 use Rattle.packet.specs.Writing.{writing}
 
 module _ {A : Type 0} where
   -- what was demanded holds
-  pub demanded : (t : Bool) (n : ℕ) (next : Said A) {a : A} → cond t next (number n) ≡ gives a → (t ≡ true) × (next ≡ gives a)
-  demanded true n next e = (refl, e)
-  demanded false n next e = let z : _≡_ {A = ℕ} 0 1 = cc in absurd (omega arith)
+  pub check-passed : (t : Bool) (n : ℕ) (next : Result A) {a : A} → cond t next (refusal n) ≡ ok a → (t ≡ true) × (next ≡ ok a)
+  check-passed true n next e = (refl, e)
+  check-passed false n next e = impossible cc
 
   -- what is refused does not hold
-  pub spared : (t : Bool) (n : ℕ) (next : Said A) {a : A} → cond t (number n) next ≡ gives a → (t ≡ false) × (next ≡ gives a)
-  spared false n next e = (refl, e)
-  spared true n next e = let z : _≡_ {A = ℕ} 0 1 = cc in absurd (omega arith)
+  pub refuse-passed : (t : Bool) (n : ℕ) (next : Result A) {a : A} → cond t (refusal n) next ≡ ok a → (t ≡ false) × (next ≡ ok a)
+  refuse-passed false n next e = (refl, e)
+  refuse-passed true n next e = impossible cc
 
-  pub same-gift : {a b : A} → gives a ≡ gives b → a ≡ b
-  same-gift e = cc
+  pub ok-injective : {a b : A} → ok a ≡ ok b → a ≡ b
+  ok-injective e = cc
 
 -- What writing accepts: every field within its bits, the payload that the packet asks for, nothing forbidden, and room.
 pub record Accepted (p : Packet) (load room n : ℕ) : Type 0 where
   pub tc : p .head .tc < 8
-  pub body : withinBody (p .body) ≡ true
-  pub fills : load ≡ loadOf (p .body)
+  pub body : bodyInRange (p .body) ≡ true
+  pub fills : load ≡ payloadLength (p .body)
   pub allows : allowed p ≡ true
-  pub long : fixedOf (formOf (p .body)) + load ≡ n
+  pub long : payloadOffset (formOf (p .body)) + load ≡ n
   pub fits : n ≤ room
 
-pub accepted : (p : Packet) (load room n : ℕ) → writing p load room ≡ gives n → Accepted p load room n
+pub accepted : (p : Packet) (load room n : ℕ) → writing p load room ≡ ok n → Accepted p load room n
 unfolding writing
 accepted p load room n e =
-    let size : ℕ = fixedOf (formOf (p .body)) + load in
-    let a = demanded (within p) 12 _ e in
-    let b = demanded (eqb load (loadOf (p .body))) 12 _ (a .1) in
-    let c = demanded (allowed p) 4 _ (b .1) in
-    let d = spared (ltb room size) 17 (gives size) (c .1) in
-    let w = and-both (ltb (p .head .tc) 8) (withinBody (p .body)) (a .0) in
-    let same : size ≡ n = same-gift (d .1) in
+    let size : ℕ = payloadOffset (formOf (p .body)) + load in
+    let a = check-passed (fieldsInRange p) 12 _ e in
+    let b = check-passed (eqb load (payloadLength (p .body))) 12 _ (a .1) in
+    let c = check-passed (allowed p) 4 _ (b .1) in
+    let d = refuse-passed (ltb room size) 17 (ok size) (c .1) in
+    let w = and-both (ltb (p .head .tc) 8) (bodyInRange (p .body)) (a .0) in
+    let same : size ≡ n = ok-injective (d .1) in
     record {
       tc = ltb-true (p .head .tc) 8 (w .0);
       body = w .1;
-      fills = eqb-true load (loadOf (p .body)) (b .0);
+      fills = eqb-true load (payloadLength (p .body)) (b .0);
       allows = c .0;
       long = same;
       fits = rw (← same) (ltb-false room size (d .0));

@@ -1,3 +1,3 @@
 pub mod Laws
-pub mod Told
+pub mod Injective
 pub mod Among

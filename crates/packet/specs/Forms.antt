@@ -22,38 +22,38 @@ choose b0 b7 =
     Unlisted))))))))
 
 -- byte 0 of each form
-abbrev pub firstOf : Form → ℕ
-firstOf Mrd32 = 0x00
-firstOf Mrd64 = 0x20
-firstOf Mwr32 = 0x40
-firstOf Mwr64 = 0x60
-firstOf CplNoData = 0x0A
-firstOf CplData = 0x4A
-firstOf InvReq = 0x72
-firstOf InvCpl = 0x32
-firstOf PageReq = 0x30
-firstOf PrgResp = 0x32
+abbrev pub byte0Of : Form → ℕ
+byte0Of Mrd32 = 0x00
+byte0Of Mrd64 = 0x20
+byte0Of Mwr32 = 0x40
+byte0Of Mwr64 = 0x60
+byte0Of CplNoData = 0x0A
+byte0Of CplData = 0x4A
+byte0Of InvReq = 0x72
+byte0Of InvCpl = 0x32
+byte0Of PageReq = 0x30
+byte0Of PrgResp = 0x32
 
 -- Bit 5 of byte 0 says how long the header is: 12 bytes where it is clear (a 32-bit address, and in completions), 16 where it is set.
-abbrev pub headerOf : Form → ℕ
-headerOf m = cond (eqb (firstOf m / 0x20 % 2) 0) 12 16
+abbrev pub headerLength : Form → ℕ
+headerLength m = cond (eqb (byte0Of m / 0x20 % 2) 0) 12 16
 
 -- Bit 6 says whether 4 × Length bytes follow the header: in writes, completions with data and Invalidate Requests.
-abbrev pub carries : Form → Bool
-carries m = eqb (firstOf m / 0x40 % 2) 1
+abbrev pub carriesData : Form → Bool
+carriesData m = eqb (byte0Of m / 0x40 % 2) 1
 
 -- how many DWORDs a Length stands for: 0 for 1024
-abbrev pub dwordsOf : ℕ → ℕ
-dwordsOf w = cond (eqb w 0) 1024 w
+abbrev pub dwordCount : ℕ → ℕ
+dwordCount w = cond (eqb w 0) 1024 w
 
 -- how many bytes a packet of this form and Length has
-abbrev pub lengthOf : Form → ℕ → ℕ
-lengthOf m w = cond (carries m) (headerOf m + dwordsOf w * 4) (headerOf m)
+abbrev pub packetLength : Form → ℕ → ℕ
+packetLength m w = cond (carriesData m) (headerLength m + dwordCount w * 4) (headerLength m)
 
 -- the bytes before the payload: the header; of an Invalidate Request also its 8 bytes of data, which are fields
-abbrev pub fixedOf : Form → ℕ
-fixedOf m = cond (eqb (firstOf m) (firstOf InvReq)) (headerOf m + 8) (headerOf m)
+abbrev pub payloadOffset : Form → ℕ
+payloadOffset m = cond (eqb (byte0Of m) (byte0Of InvReq)) (headerLength m + 8) (headerLength m)
 
 -- byte 7 of a MEM packet, its byte enables
-abbrev pub enablesOf : ℕ → ℕ
-enablesOf w = cond (eqb w 1) 0x0F 0xFF
+abbrev pub byteEnables : ℕ → ℕ
+byteEnables w = cond (eqb w 1) 0x0F 0xFF

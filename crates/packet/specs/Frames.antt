@@ -1,5 +1,5 @@
 -- A header taken apart into a frame, and a frame spelled as bytes: byte 0 is the first on the wire, and numbers of several bytes have their high byte first. 01, "The seven packets".
-use Prim.Native.Nat.{ℕ, _+_, _*_, _/_, _%_}
+use Prim.Native.Nat.{ℕ, _+_, _*_, _/_, _%_, _^_}
 use mathlib.Core.Bool.{cond}
 use mathlib.Core.List.{List, [], _∷_, _++_}
 use lib.ListN.{getD, length}
@@ -18,22 +18,22 @@ abbrev pub num32At : List ℕ → ℕ → ℕ
 num32At b i = num16At b i * 65536 + num16At b (i + 2)
 
 abbrev pub num64At : List ℕ → ℕ → ℕ
-num64At b i = num32At b i * 4294967296 + num32At b (i + 4)
+num64At b i = num32At b i * 2 ^ 32 + num32At b (i + 4)
 
 -- Length, in bits 1:0 of byte 2 with byte 3
-abbrev pub wordsAt : List ℕ → ℕ
-wordsAt b = byte b 2 % 4 * 256 + byte b 3
+abbrev pub dwordsAt : List ℕ → ℕ
+dwordsAt b = byte b 2 % 4 * 256 + byte b 3
 
 -- Byte 1 has TC in bits 6:4; byte 2 has TD and EP in bits 7:6 and AT in bits 3:2; bytes 4 and 5 are the
 -- sender's ID. What stands from byte 12 on is 0 in a packet that ends before byte 16, and the body in one that ends before byte 24.
-unfoldable pub frameOf : List ℕ → Frame
-frameOf b =
+unfoldable pub decodeFrame : List ℕ → Frame
+decodeFrame b =
     record {
       byte0 = byte b 0;
       tc = byte b 1 / 16 % 8;
       marks = byte b 2 / 64;
       at = byte b 2 / 4 % 4;
-      words = wordsAt b;
+      dwords = dwordsAt b;
       sender = num16At b 4;
       byte6 = byte b 6;
       byte7 = byte b 7;
@@ -43,18 +43,18 @@ frameOf b =
     }
 
 -- the four bytes that spell a DWORD
-abbrev pub four : ℕ → List ℕ
-four n = (n / 16777216 % 256) ∷ (n / 65536 % 256) ∷ (n / 256 % 256) ∷ (n % 256) ∷ []
+abbrev pub fourBytes : ℕ → List ℕ
+fourBytes n = (n / 16777216 % 256) ∷ (n / 65536 % 256) ∷ (n / 256 % 256) ∷ (n % 256) ∷ []
 
 -- the 24 bytes that spell a frame; TD, EP and every unnamed bit are zero
-abbrev pub spelled : Frame → List ℕ
-spelled f =
+abbrev pub encodeFrame : Frame → List ℕ
+encodeFrame f =
     f .byte0
     ∷ (f .tc % 8 * 16)
-    ∷ (f .at % 4 * 4 + f .words / 256 % 4)
-    ∷ (f .words % 256)
+    ∷ (f .at % 4 * 4 + f .dwords / 256 % 4)
+    ∷ (f .dwords % 256)
     ∷ (f .sender / 256 % 256)
     ∷ (f .sender % 256)
     ∷ f .byte6
     ∷ f .byte7
-    ∷ (four (f .dword8) ++ four (f .dword12) ++ four (f .body / 4294967296) ++ four (f .body % 4294967296))
+    ∷ (fourBytes (f .dword8) ++ fourBytes (f .dword12) ++ fourBytes (f .body / 2 ^ 32) ++ fourBytes (f .body % 2 ^ 32))

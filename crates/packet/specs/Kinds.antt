@@ -1,5 +1,5 @@
 -- The rest of the table of kinds: the fields of each kind in a frame, the frame of a packet, what is forbidden, and what its bits hold. 01, "The seven packets", "Forbidden values".
-use Prim.Native.Nat.{ℕ, _+_, _*_, _/_, _%_}
+use Prim.Native.Nat.{ℕ, _+_, _*_, _/_, _%_, _^_}
 use mathlib.Core.Bool.{Bool, true, cond, not, _&&_}
 use lib.Dec.{ltb, leb, eqb}
 use Rattle.packet.specs.declared.Frame.{Frame}
@@ -13,7 +13,7 @@ use Rattle.packet.specs.declared.Outcome.the-variants.{Data, Status}
 use Rattle.packet.specs.declared.Body.{Body}
 use Rattle.packet.specs.declared.Body.the-variants.{Tr, Mem, Cpl, Inv, Ic, Prq, Prs}
 use Rattle.packet.specs.declared.Packet.{Packet}
-use Rattle.packet.specs.Forms.{firstOf, dwordsOf, enablesOf}
+use Rattle.packet.specs.Forms.{byte0Of, dwordCount, byteEnables}
 
 -- ---- the fields of a frame
 
@@ -21,21 +21,21 @@ abbrev pub headIn : Frame → Head
 headIn f = record { tc = f .tc; sender = f .sender }
 
 -- the address of the 64-bit forms, and what a Page Request has in its place
-abbrev pub longIn : Frame → ℕ
-longIn f = f .dword8 * 4294967296 + f .dword12
+abbrev pub address64In : Frame → ℕ
+address64In f = f .dword8 * 2 ^ 32 + f .dword12
 
 -- TR: byte 6 is the Tag; of the address as it stands, a, bits 11:0 are no part, and bit 0 is No Write
 abbrev pub trIn : Frame → ℕ → Body
 trIn f a =
-    Tr (record { tag = record { 0 = f .byte6 }; words = f .words; address = a / 4096 * 4096; nowrite = eqb (a % 2) 1 })
+    Tr (record { tag = record { 0 = f .byte6 }; dwords = f .dwords; address = a / 4096 * 4096; nowrite = eqb (a % 2) 1 })
 
 -- MEM: bits 1:0 of the address are unnamed; AT 10 is translated
 abbrev pub memIn : Frame → Access → ℕ → Body
-memIn f access a = Mem (record { access = access; words = f .words; address = a / 4 * 4; translated = eqb (f .at) 2 })
+memIn f access a = Mem (record { access = access; dwords = f .dwords; address = a / 4 * 4; translated = eqb (f .at) 2 })
 
 -- 00h and 20h are a TR with AT 01, else a MEM read, whose byte 6 is the Tag
-abbrev pub fetchIn : Frame → ℕ → Body
-fetchIn f a = cond (eqb (f .at) 1) (trIn f a) (memIn f (Read (record { 0 = f .byte6 })) a)
+abbrev pub readRequestIn : Frame → ℕ → Body
+readRequestIn f a = cond (eqb (f .at) 1) (trIn f a) (memIn f (Read (record { 0 = f .byte6 })) a)
 
 -- Byte Count: the low 4 bits of byte 6 with byte 7
 abbrev pub countIn : Frame → ℕ
@@ -91,15 +91,15 @@ prsIn f =
     })
 
 unfoldable pub bodyIn : Form → Frame → Body
-bodyIn Mrd32 f = fetchIn f (f .dword8)
-bodyIn Mrd64 f = fetchIn f (longIn f)
+bodyIn Mrd32 f = readRequestIn f (f .dword8)
+bodyIn Mrd64 f = readRequestIn f (address64In f)
 bodyIn Mwr32 f = memIn f Write (f .dword8)
-bodyIn Mwr64 f = memIn f Write (longIn f)
+bodyIn Mwr64 f = memIn f Write (address64In f)
 bodyIn CplNoData f = cplIn f (Status (f .byte6 / 32))
-bodyIn CplData f = cplIn f (Data (f .words))
+bodyIn CplData f = cplIn f (Data (f .dwords))
 bodyIn InvReq f = invIn f
 bodyIn InvCpl f = icIn f
-bodyIn PageReq f = prqIn (longIn f)
+bodyIn PageReq f = prqIn (address64In f)
 bodyIn PrgResp f = prsIn f
 
 abbrev pub packetIn : Form → Frame → Packet
@@ -108,40 +108,40 @@ packetIn m f = record { head = headIn f; body = bodyIn m f }
 -- ---- forbidden values that no field of a packet could hold: they are seen in the frame alone
 
 -- MEM: AT 00 or 10, and byte 7 as its Length asks
-abbrev pub shapedMem : Frame → Bool
-shapedMem f = eqb (f .at % 2) 0 && eqb (f .byte7) (enablesOf (f .words))
+abbrev pub wellFormedMem : Frame → Bool
+wellFormedMem f = eqb (f .at % 2) 0 && eqb (f .byte7) (byteEnables (f .dwords))
 
-abbrev pub shapedFetch : Frame → Bool
-shapedFetch f = cond (eqb (f .at) 1) (eqb (f .byte7) 0xFF) (shapedMem f)
+abbrev pub wellFormedReadRequest : Frame → Bool
+wellFormedReadRequest f = cond (eqb (f .at) 1) (eqb (f .byte7) 0xFF) (wellFormedMem f)
 
 -- the 64-bit form has an upper half that is not zero
-abbrev pub shapedLong : Frame → Bool → Bool
-shapedLong f rest = ltb 0 (f .dword8) && rest
+abbrev pub wellFormed64 : Frame → Bool → Bool
+wellFormed64 f rest = ltb 0 (f .dword8) && rest
 
 -- status 000 with data; Length 2 in an INV
-unfoldable pub shaped : Form → Frame → Bool
-shaped Mrd32 f = shapedFetch f
-shaped Mrd64 f = shapedLong f (shapedFetch f)
-shaped Mwr32 f = shapedMem f
-shaped Mwr64 f = shapedLong f (shapedMem f)
-shaped CplNoData f = true
-shaped CplData f = eqb (f .byte6 / 32) 0
-shaped InvReq f = eqb (f .words) 2
-shaped InvCpl f = true
-shaped PageReq f = true
-shaped PrgResp f = true
+unfoldable pub wellFormed : Form → Frame → Bool
+wellFormed Mrd32 f = wellFormedReadRequest f
+wellFormed Mrd64 f = wellFormed64 f (wellFormedReadRequest f)
+wellFormed Mwr32 f = wellFormedMem f
+wellFormed Mwr64 f = wellFormed64 f (wellFormedMem f)
+wellFormed CplNoData f = true
+wellFormed CplData f = eqb (f .byte6 / 32) 0
+wellFormed InvReq f = eqb (f .dwords) 2
+wellFormed InvCpl f = true
+wellFormed PageReq f = true
+wellFormed PrgResp f = true
 
 -- ---- forbidden values of fields
 
 abbrev pub shortEnough : ℕ → Bool
-shortEnough w = leb (dwordsOf w) 32
+shortEnough w = leb (dwordCount w) 32
 
 abbrev pub evenAndShort : ℕ → Bool
 evenAndShort w = eqb (w % 2) 0 && shortEnough w
 
 -- where S is set, an address of ones only has no size
-abbrev pub hasSize : ℕ → Bool → Bool
-hasSize a s = cond s (not (eqb (a / 4096) 0xF_FFFF_FFFF_FFFF)) true
+abbrev pub codesSize : ℕ → Bool → Bool
+codesSize a s = cond s (not (eqb (a / 4096) 0xF_FFFF_FFFF_FFFF)) true
 
 abbrev pub allowedOutcome : Outcome → Bool
 allowedOutcome (Data w) = shortEnough w
@@ -150,10 +150,10 @@ allowedOutcome (Status s) = not (eqb s 2)
 -- Forbidden are: Length of a TR odd, 0 or above 32; Length of a MEM or a completion with data above 32; status 010; a body with no size; TC of
 -- a PRQ or a PRS not 0.
 unfoldable pub allowedBody : ℕ → Body → Bool
-allowedBody tc (Tr t) = evenAndShort (t .words)
-allowedBody tc (Mem m) = shortEnough (m .words)
+allowedBody tc (Tr t) = evenAndShort (t .dwords)
+allowedBody tc (Mem m) = shortEnough (m .dwords)
 allowedBody tc (Cpl c) = allowedOutcome (c .outcome)
-allowedBody tc (Inv i) = hasSize (i .address) (i .sized)
+allowedBody tc (Inv i) = codesSize (i .address) (i .sized)
 allowedBody tc (Ic i) = true
 allowedBody tc (Prq q) = eqb tc 0
 allowedBody tc (Prs s) = eqb tc 0
@@ -163,57 +163,57 @@ allowed p = allowedBody (p .head .tc) (p .body)
 
 -- ---- a field outside its bits, low address bits that have no place among them
 
-abbrev pub withinOutcome : Outcome → Bool
-withinOutcome (Data w) = ltb w 1024
-withinOutcome (Status s) = ltb s 8
+abbrev pub outcomeInRange : Outcome → Bool
+outcomeInRange (Data w) = ltb w 1024
+outcomeInRange (Status s) = ltb s 8
 
-unfoldable pub withinBody : Body → Bool
-withinBody (Tr t) = ltb (t .words) 1024 && eqb (t .address % 4096) 0
-withinBody (Mem m) = ltb (m .words) 1024 && eqb (m .address % 4) 0
-withinBody (Cpl c) = ltb (c .count) 4096 && (ltb (c .lower) 128 && withinOutcome (c .outcome))
-withinBody (Inv i) = ltb (i .itag .0) 32 && eqb (i .address % 4096) 0
-withinBody (Ic i) = ltb (i .cc) 8
-withinBody (Prq q) = eqb (q .page % 4096) 0 && ltb (q .index .0) 512
-withinBody (Prs s) = ltb (s .code) 16 && ltb (s .index .0) 512
+unfoldable pub bodyInRange : Body → Bool
+bodyInRange (Tr t) = ltb (t .dwords) 1024 && eqb (t .address % 4096) 0
+bodyInRange (Mem m) = ltb (m .dwords) 1024 && eqb (m .address % 4) 0
+bodyInRange (Cpl c) = ltb (c .count) 4096 && (ltb (c .lower) 128 && outcomeInRange (c .outcome))
+bodyInRange (Inv i) = ltb (i .itag .0) 32 && eqb (i .address % 4096) 0
+bodyInRange (Ic i) = ltb (i .cc) 8
+bodyInRange (Prq q) = eqb (q .page % 4096) 0 && ltb (q .index .0) 512
+bodyInRange (Prs s) = ltb (s .code) 16 && ltb (s .index .0) 512
 
-abbrev pub within : Packet → Bool
-within p = ltb (p .head .tc) 8 && withinBody (p .body)
+abbrev pub fieldsInRange : Packet → Bool
+fieldsInRange p = ltb (p .head .tc) 8 && bodyInRange (p .body)
 
 -- ---- the payload of a packet: 4 × Length bytes in a MEM write and a completion with data
 
-abbrev pub accessLoad : Access → ℕ → ℕ
-accessLoad (Read tag) w = 0
-accessLoad Write w = dwordsOf w * 4
+abbrev pub accessPayloadLength : Access → ℕ → ℕ
+accessPayloadLength (Read tag) w = 0
+accessPayloadLength Write w = dwordCount w * 4
 
-abbrev pub outcomeLoad : Outcome → ℕ
-outcomeLoad (Data w) = dwordsOf w * 4
-outcomeLoad (Status s) = 0
+abbrev pub outcomePayloadLength : Outcome → ℕ
+outcomePayloadLength (Data w) = dwordCount w * 4
+outcomePayloadLength (Status s) = 0
 
-unfoldable pub loadOf : Body → ℕ
-loadOf (Tr t) = 0
-loadOf (Mem m) = accessLoad (m .access) (m .words)
-loadOf (Cpl c) = outcomeLoad (c .outcome)
-loadOf (Inv i) = 0
-loadOf (Ic i) = 0
-loadOf (Prq q) = 0
-loadOf (Prs s) = 0
+unfoldable pub payloadLength : Body → ℕ
+payloadLength (Tr t) = 0
+payloadLength (Mem m) = accessPayloadLength (m .access) (m .dwords)
+payloadLength (Cpl c) = outcomePayloadLength (c .outcome)
+payloadLength (Inv i) = 0
+payloadLength (Ic i) = 0
+payloadLength (Prq q) = 0
+payloadLength (Prs s) = 0
 
 -- ---- the form and the frame of a packet; the remainders change nothing in a packet whose fields are within their bits
 
 -- a 64-bit form only where the address needs it
-abbrev pub wide : ℕ → Bool
-wide a = leb 4294967296 a
+abbrev pub needs64Bits : ℕ → Bool
+needs64Bits a = leb (2 ^ 32) a
 
 abbrev pub accessForm : Access → ℕ → Form
-accessForm (Read tag) a = cond (wide a) Mrd64 Mrd32
-accessForm Write a = cond (wide a) Mwr64 Mwr32
+accessForm (Read tag) a = cond (needs64Bits a) Mrd64 Mrd32
+accessForm Write a = cond (needs64Bits a) Mwr64 Mwr32
 
 abbrev pub outcomeForm : Outcome → Form
 outcomeForm (Data w) = CplData
 outcomeForm (Status s) = CplNoData
 
 unfoldable pub formOf : Body → Form
-formOf (Tr t) = cond (wide (t .address)) Mrd64 Mrd32
+formOf (Tr t) = cond (needs64Bits (t .address)) Mrd64 Mrd32
 formOf (Mem m) = accessForm (m .access) (m .address)
 formOf (Cpl c) = outcomeForm (c .outcome)
 formOf (Inv i) = InvReq
@@ -226,61 +226,61 @@ abbrev pub bitOf : Bool → ℕ
 bitOf b = cond b 1 0
 
 -- bytes 8-11 and 12-15 where an address stands there
-abbrev pub upperOf : ℕ → ℕ
-upperOf a = cond (wide a) (a / 4294967296) a
+abbrev pub addressDword8 : ℕ → ℕ
+addressDword8 a = cond (needs64Bits a) (a / 2 ^ 32) a
 
-abbrev pub lowerOf : ℕ → ℕ
-lowerOf a = cond (wide a) (a % 4294967296) 0
+abbrev pub addressDword12 : ℕ → ℕ
+addressDword12 a = cond (needs64Bits a) (a % 2 ^ 32) 0
 
 abbrev pub accessTag : Access → ℕ
 accessTag (Read tag) = tag .0
 accessTag Write = 0
 
-abbrev pub outcomeWords : Outcome → ℕ
-outcomeWords (Data w) = w
-outcomeWords (Status s) = 0
+abbrev pub outcomeDwords : Outcome → ℕ
+outcomeDwords (Data w) = w
+outcomeDwords (Status s) = 0
 
 abbrev pub outcomeStatus : Outcome → ℕ
 outcomeStatus (Data w) = 0
 outcomeStatus (Status s) = s
 
-unfoldable pub framed : Head → Body → Frame
-framed h (Tr t) =
+unfoldable pub packetFrame : Head → Body → Frame
+packetFrame h (Tr t) =
     let a = t .address / 4096 * 4096 + bitOf (t .nowrite) in
     record {
-      byte0 = firstOf (formOf (Tr t));
+      byte0 = byte0Of (formOf (Tr t));
       tc = h .tc;
       marks = 0;
       at = 1;
-      words = t .words;
+      dwords = t .dwords;
       sender = h .sender;
       byte6 = t .tag .0;
       byte7 = 0xFF;
-      dword8 = upperOf a;
-      dword12 = lowerOf a;
+      dword8 = addressDword8 a;
+      dword12 = addressDword12 a;
       body = 0;
     }
-framed h (Mem m) =
+packetFrame h (Mem m) =
     record {
-      byte0 = firstOf (formOf (Mem m));
+      byte0 = byte0Of (formOf (Mem m));
       tc = h .tc;
       marks = 0;
       at = bitOf (m .translated) * 2;
-      words = m .words;
+      dwords = m .dwords;
       sender = h .sender;
       byte6 = accessTag (m .access);
-      byte7 = enablesOf (m .words);
-      dword8 = upperOf (m .address);
-      dword12 = lowerOf (m .address);
+      byte7 = byteEnables (m .dwords);
+      dword8 = addressDword8 (m .address);
+      dword12 = addressDword12 (m .address);
       body = 0;
     }
-framed h (Cpl c) =
+packetFrame h (Cpl c) =
     record {
-      byte0 = firstOf (formOf (Cpl c));
+      byte0 = byte0Of (formOf (Cpl c));
       tc = h .tc;
       marks = 0;
       at = 0;
-      words = outcomeWords (c .outcome);
+      dwords = outcomeDwords (c .outcome);
       sender = h .sender;
       byte6 = outcomeStatus (c .outcome) % 8 * 32 + c .count / 256 % 16;
       byte7 = c .count % 256;
@@ -288,13 +288,13 @@ framed h (Cpl c) =
       dword12 = 0;
       body = 0;
     }
-framed h (Inv i) =
+packetFrame h (Inv i) =
     record {
-      byte0 = firstOf InvReq;
+      byte0 = byte0Of InvReq;
       tc = h .tc;
       marks = 0;
       at = 0;
-      words = 2;
+      dwords = 2;
       sender = h .sender;
       byte6 = i .itag .0;
       byte7 = 0x01;
@@ -302,13 +302,13 @@ framed h (Inv i) =
       dword12 = 0;
       body = i .address / 4096 * 4096 + bitOf (i .sized) * 2048;
     }
-framed h (Ic i) =
+packetFrame h (Ic i) =
     record {
-      byte0 = firstOf InvCpl;
+      byte0 = byte0Of InvCpl;
       tc = h .tc;
       marks = 0;
       at = 0;
-      words = 0;
+      dwords = 0;
       sender = h .sender;
       byte6 = 0;
       byte7 = 0x02;
@@ -316,28 +316,28 @@ framed h (Ic i) =
       dword12 = i .vector;
       body = 0;
     }
-framed h (Prq q) =
+packetFrame h (Prq q) =
     let a = q .page / 4096 * 4096 + q .index .0 % 512 * 8 + bitOf (q .last) * 4 + bitOf (q .write) * 2 + bitOf (q .read) in
     record {
-      byte0 = firstOf PageReq;
+      byte0 = byte0Of PageReq;
       tc = h .tc;
       marks = 0;
       at = 0;
-      words = 0;
+      dwords = 0;
       sender = h .sender;
       byte6 = 0;
       byte7 = 0x04;
-      dword8 = a / 4294967296;
-      dword12 = a % 4294967296;
+      dword8 = a / 2 ^ 32;
+      dword12 = a % 2 ^ 32;
       body = 0;
     }
-framed h (Prs s) =
+packetFrame h (Prs s) =
     record {
-      byte0 = firstOf PrgResp;
+      byte0 = byte0Of PrgResp;
       tc = h .tc;
       marks = 0;
       at = 0;
-      words = 0;
+      dwords = 0;
       sender = h .sender;
       byte6 = 0;
       byte7 = 0x05;

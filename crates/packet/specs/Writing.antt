@@ -6,33 +6,33 @@ use lib.Dec.{ltb, eqb}
 use Rattle.packet.specs.declared.Packet.{Packet}
 use Rattle.packet.specs.declared.Writing.{Writing}
 use Rattle.packet.specs.declared.Writing.the-variants.{Written, Refused}
-use Rattle.packet.specs.Numbers.{Said, gives, number, numberOf, refuse, demand}
-use Rattle.packet.specs.Frames.{spelled}
-use Rattle.packet.specs.Forms.{fixedOf}
-use Rattle.packet.specs.Kinds.{within, allowed, loadOf, formOf, framed}
+use Rattle.packet.specs.Numbers.{Result, ok, refusal, numberOf, refuse, check}
+use Rattle.packet.specs.Frames.{encodeFrame}
+use Rattle.packet.specs.Forms.{payloadOffset}
+use Rattle.packet.specs.Kinds.{fieldsInRange, allowed, payloadLength, formOf, packetFrame}
 
--- what the paper says of an answer
-abbrev pub paperWritten : Writing → Said ℕ
-paperWritten (Written n) = gives n
-paperWritten (Refused r) = number (numberOf r)
+-- the result that an answer stands for
+abbrev pub writeResult : Writing → Result ℕ
+writeResult (Written n) = ok n
+writeResult (Refused r) = refusal (numberOf r)
 
 -- the bytes of a packet: its fields, and then its payload
 unfoldable pub bytesOf : Packet → List ℕ → List ℕ
-bytesOf p payload = take (fixedOf (formOf (p .body))) (spelled (framed (p .head) (p .body))) ++ payload
+bytesOf p payload = take (payloadOffset (formOf (p .body))) (encodeFrame (packetFrame (p .head) (p .body))) ++ payload
 
 -- n bytes where there is room for them
-abbrev pub fitting : ℕ → ℕ → Said ℕ
-fitting n room = refuse 17 (ltb room n) (gives n)
+abbrev pub checkRoom : ℕ → ℕ → Result ℕ
+checkRoom n room = refuse 17 (ltb room n) (ok n)
 
 -- load is the payload's length, room the buffer's
-unfoldable pub writing : Packet → ℕ → ℕ → Said ℕ
+unfoldable pub writing : Packet → ℕ → ℕ → Result ℕ
 writing p load room =
-    demand 12 (within p)
-    (demand 12 (eqb load (loadOf (p .body)))
-    (demand 4 (allowed p)
-    (fitting (fixedOf (formOf (p .body)) + load) room)))
+    check 12 (fieldsInRange p)
+    (check 12 (eqb load (payloadLength (p .body)))
+    (check 4 (allowed p)
+    (checkRoom (payloadOffset (formOf (p .body)) + load) room)))
 
 -- the buffer afterwards: the packet at its start and the rest as it was, or all of it as it was
-abbrev pub after : Said ℕ → List ℕ → List ℕ → List ℕ
-after (gives n) bytes out = bytes ++ drop (length bytes) out
-after (number k) bytes out = out
+abbrev pub bufferAfter : Result ℕ → List ℕ → List ℕ → List ℕ
+bufferAfter (ok n) bytes out = bytes ++ drop (length bytes) out
+bufferAfter (refusal k) bytes out = out

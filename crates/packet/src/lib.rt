@@ -3,8 +3,8 @@
 ghost use mathlib.Core.Path.{_≡_};
 ghost use Prim.Native.Nat.{_≤_};
 ghost use Rattle.packet.specs.Numbers.{numberOf};
-ghost use Rattle.packet.specs.Forms.{dwordsOf, enablesOf, fixedOf};
-ghost use Rattle.packet.specs.Kinds.{shortEnough, evenAndShort, hasSize, allowedOutcome, allowedBody};
+ghost use Rattle.packet.specs.Forms.{dwordCount, byteEnables, payloadOffset};
+ghost use Rattle.packet.specs.Kinds.{shortEnough, evenAndShort, codesSize, allowedOutcome, allowedBody};
 
 // The number of an open request.
 pub struct Tag(pub u8);
@@ -17,23 +17,23 @@ pub struct PrgIndex(pub u16);
 
 // The seventeen refusals, in the order of their numbers.
 pub enum Refusal {
-    Length,
-    Kind,
-    Marked,
-    Forbidden,
-    NotOurs,
+    BadLength,
+    UnsupportedKind,
+    PoisonedOrDigest,
+    ForbiddenValue,
+    OtherFunction,
     Disabled,
-    NotOpen,
-    Misfit,
-    StillWaiting,
+    NothingPending,
+    BadCompletion,
+    ITagInUse,
     OtherAgent,
-    NoTag,
-    Argument,
+    NoFreeTag,
+    BadArgument,
     NoEntry,
-    NoRight,
-    PagesOff,
-    NoCredit,
-    Room,
+    NoPermission,
+    PagesNotOn,
+    NoCreditOrGroupWaits,
+    BufferTooShort,
 }
 
 // What every kind has: Traffic Class and sender's ID.
@@ -42,10 +42,10 @@ pub struct Head {
     pub sender: u16,
 }
 
-// Here and below `words` is Length as its field has it: a count of DWORDs, in which 0 means 1024.
+// Here and below `dwords` is Length as its field has it: a count of DWORDs, in which 0 means 1024.
 pub struct TranslationRequest {
     pub tag: Tag,
-    pub words: u16,
+    pub dwords: u16,
     pub address: u64,
     pub nowrite: bool,
 }
@@ -59,7 +59,7 @@ pub enum Access {
 // Translated is AT 10, else AT 00.
 pub struct MemoryRequest {
     pub access: Access,
-    pub words: u16,
+    pub dwords: u16,
     pub address: u64,
     pub translated: bool,
 }
@@ -148,7 +148,7 @@ pub struct Frame {
     pub tc: u8,
     pub marks: u8,
     pub at: u8,
-    pub words: u16,
+    pub dwords: u16,
     pub sender: u16,
     pub byte6: u8,
     pub byte7: u8,
@@ -174,43 +174,43 @@ pub fn number(r: Refusal) -> u8
     ensures { λ n. ⌜ n ≡ numberOf r ⌝ }
 {
     match r {
-        Refusal::Length => 1,
-        Refusal::Kind => 2,
-        Refusal::Marked => 3,
-        Refusal::Forbidden => 4,
-        Refusal::NotOurs => 5,
+        Refusal::BadLength => 1,
+        Refusal::UnsupportedKind => 2,
+        Refusal::PoisonedOrDigest => 3,
+        Refusal::ForbiddenValue => 4,
+        Refusal::OtherFunction => 5,
         Refusal::Disabled => 6,
-        Refusal::NotOpen => 7,
-        Refusal::Misfit => 8,
-        Refusal::StillWaiting => 9,
+        Refusal::NothingPending => 7,
+        Refusal::BadCompletion => 8,
+        Refusal::ITagInUse => 9,
         Refusal::OtherAgent => 10,
-        Refusal::NoTag => 11,
-        Refusal::Argument => 12,
+        Refusal::NoFreeTag => 11,
+        Refusal::BadArgument => 12,
         Refusal::NoEntry => 13,
-        Refusal::NoRight => 14,
-        Refusal::PagesOff => 15,
-        Refusal::NoCredit => 16,
-        Refusal::Room => 17,
+        Refusal::NoPermission => 14,
+        Refusal::PagesNotOn => 15,
+        Refusal::NoCreditOrGroupWaits => 16,
+        Refusal::BufferTooShort => 17,
     }
 }
 
 // The DWORDs that a Length stands for.
-pub fn dwords(words: u16) -> usize
-    ensures { λ r. ⌜ (r ≡ dwordsOf words) × (r ≤ 65535) ⌝ }
+pub fn dword_count(dwords: u16) -> usize
+    ensures { λ r. ⌜ (r ≡ dwordCount dwords) × (r ≤ 65535) ⌝ }
 {
-    if words == 0 { 1024 } else { words as usize }
+    if dwords == 0 { 1024 } else { dwords as usize }
 }
 
 // Byte 7 of a MEM packet of this Length: its byte enables.
-pub fn enables(words: u16) -> u8
-    ensures { λ r. ⌜ r ≡ enablesOf words ⌝ }
+pub fn byte_enables(dwords: u16) -> u8
+    ensures { λ r. ⌜ r ≡ byteEnables dwords ⌝ }
 {
-    if words == 1 { 0x0F } else { 0xFF }
+    if dwords == 1 { 0x0F } else { 0xFF }
 }
 
 // The bytes before the payload.
-pub fn fixed(m: Form) -> usize
-    ensures { λ r. ⌜ (r ≡ fixedOf m) × (r ≤ 24) ⌝ }
+pub fn payload_offset(m: Form) -> usize
+    ensures { λ r. ⌜ (r ≡ payloadOffset m) × (r ≤ 24) ⌝ }
 {
     match m {
         Form::Mrd32 => 12,
@@ -227,23 +227,23 @@ pub fn fixed(m: Form) -> usize
 }
 
 // Length 32 is the most that a packet here may have.
-fn is_short(words: u16) -> bool
-    ensures { λ r. ⌜ r ≡ shortEnough words ⌝ }
+fn is_short(dwords: u16) -> bool
+    ensures { λ r. ⌜ r ≡ shortEnough dwords ⌝ }
 {
-    dwords(words) <= 32
+    dword_count(dwords) <= 32
 }
 
 fn is_allowed_outcome(o: Outcome) -> bool
     ensures { λ r. ⌜ r ≡ allowedOutcome o ⌝ }
 {
     match o {
-        Outcome::Data(words) => is_short(words),
+        Outcome::Data(dwords) => is_short(dwords),
         Outcome::Status(status) => status != 2,
     }
 }
 
-fn has_size(address: u64, sized: bool) -> bool
-    ensures { λ r. ⌜ r ≡ hasSize address sized ⌝ }
+fn codes_size(address: u64, sized: bool) -> bool
+    ensures { λ r. ⌜ r ≡ codesSize address sized ⌝ }
 {
     if sized {
         address / 4096 != 0xF_FFFF_FFFF_FFFF
@@ -252,11 +252,11 @@ fn has_size(address: u64, sized: bool) -> bool
     }
 }
 
-fn is_even_and_short(words: u16) -> bool
-    ensures { λ r. ⌜ r ≡ evenAndShort words ⌝ }
+fn is_even_and_short(dwords: u16) -> bool
+    ensures { λ r. ⌜ r ≡ evenAndShort dwords ⌝ }
 {
-    if words % 2 == 0 {
-        is_short(words)
+    if dwords % 2 == 0 {
+        is_short(dwords)
     } else {
         false
     }
@@ -267,13 +267,13 @@ pub fn is_allowed(tc: u8, body: Body) -> bool
     ensures { λ r. ⌜ r ≡ allowedBody tc body ⌝ }
 {
     match body {
-        Body::Tr(t) => is_even_and_short(t.words),
-        Body::Mem(m) => is_short(m.words),
+        Body::Tr(t) => is_even_and_short(t.dwords),
+        Body::Mem(m) => is_short(m.dwords),
         Body::Cpl(c) => {
             let outcome = c.outcome;
             is_allowed_outcome(outcome)
         }
-        Body::Inv(i) => has_size(i.address, i.sized),
+        Body::Inv(i) => codes_size(i.address, i.sized),
         Body::Ic(_) => true,
         Body::Prq(_) => tc == 0,
         Body::Prs(_) => tc == 0,

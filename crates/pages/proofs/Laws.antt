@@ -9,30 +9,30 @@ use lib.ListN.{length, set, length-set}
 use lib.Seq.{getD-set-same, getD-set-other}
 use borrow.Author.Tests.{leb-true, leb-false, ltb-true}
 use Rattle.lemmas.proofs.Cases.{byCases, either-case}
-use Rattle.lemmas.specs.Gather.{gather}
-use Rattle.lemmas.proofs.Gather.{sum-set}
+use Rattle.lemmas.specs.Fold.{foldMap}
+use Rattle.lemmas.proofs.Fold.{sum-set}
 use Rattle.packet.specs.declared.PrgIndex.{PrgIndex}
 use Rattle.pages.specs.declared.Group.{Group}
-use Rattle.pages.specs.Pages.{idle, closedAll, isIndex, groupAt, isWaiting, requestsOf, used, isSpent, more, joined, closed}
+use Rattle.pages.specs.Pages.{idle, closedAll, isIndex, groupAt, isWaiting, requestsOf, usedCredits, isSpent, oneMoreRequest, requestAdded, closed}
 
 -- where no group is open no credit is in use
-pub none-used : used closedAll ≡ 0
-unfolding used gather
-none-used = refl
+pub none-usedCredits : usedCredits closedAll ≡ 0
+unfolding usedCredits foldMap
+none-usedCredits = refl
 
 -- there are 32 groups
 pub none-long : length closedAll ≡ 32
 none-long = refl
 
 -- while a credit is free fewer are in use than the allocation,
-pub free-lt : (groups : List Group) (allocation : ℕ) → isSpent groups allocation ≡ false → used groups < allocation
+pub free-lt : (groups : List Group) (allocation : ℕ) → isSpent groups allocation ≡ false → usedCredits groups < allocation
 unfolding isSpent
-free-lt groups allocation = leb-false allocation (used groups)
+free-lt groups allocation = leb-false allocation (usedCredits groups)
 
 -- and where none is, as many at least
-pub spent-le : (groups : List Group) (allocation : ℕ) → isSpent groups allocation ≡ true → allocation ≤ used groups
+pub spent-le : (groups : List Group) (allocation : ℕ) → isSpent groups allocation ≡ true → allocation ≤ usedCredits groups
 unfolding isSpent
-spent-le groups allocation = leb-true allocation (used groups)
+spent-le groups allocation = leb-true allocation (usedCredits groups)
 
 module _ (groups : List Group) (all : length groups ≡ 32) (k : PrgIndex) where
   -- ---- a group closed
@@ -48,25 +48,25 @@ module _ (groups : List Group) (all : length groups ≡ 32) (k : PrgIndex) where
   close-other j f = either-case (λ (l : List Group). groupAt l j ≡ groupAt groups j) (isIndex k) _ groups (λ t. getD-set-other groups (k .0) (j .0) idle idle f) (λ t. refl)
 
   -- and no credit is taken
-  pub close-le : used (closed groups k) ≤ used groups
-  unfolding used closed
-  close-le = either-case (λ (l : List Group). used l ≤ used groups) (isIndex k) _ groups (λ t. omega (arith, set-used t)) (λ t. le-refl (used groups))
+  pub close-le : usedCredits (closed groups k) ≤ usedCredits groups
+  unfolding usedCredits closed
+  close-le = either-case (λ (l : List Group). usedCredits l ≤ usedCredits groups) (isIndex k) _ groups (λ t. omega (arith, set-used t)) (λ t. le-refl (usedCredits groups))
     where
-      set-used : isIndex k ≡ true → used (set groups (k .0) idle) + groupAt groups k .requests ≡ used groups
+      set-used : isIndex k ≡ true → usedCredits (set groups (k .0) idle) + groupAt groups k .requests ≡ usedCredits groups
       set-used t = omega (arith, sum-set requestsOf groups (k .0) idle idle (rw all (ltb-true (k .0) 32 t)))
 
   -- ---- a request joins a group
 
   module _ (last : Bool) where
     -- the groups stay 32,
-    pub join-long : length (joined groups k last) ≡ 32
-    unfolding joined
-    join-long = either-case (λ (l : List Group). length l ≡ 32) (isIndex k) _ groups (λ t. length-set groups (k .0) (more (groupAt groups k) last) ∙ all) (λ t. all)
+    pub added-long : length (requestAdded groups k last) ≡ 32
+    unfolding requestAdded
+    added-long = either-case (λ (l : List Group). length l ≡ 32) (isIndex k) _ groups (λ t. length-set groups (k .0) (oneMoreRequest (groupAt groups k) last) ∙ all) (λ t. all)
 
     -- and no other changes
-    pub join-other : (j : PrgIndex) → (j .0 ≡ k .0 → ⊥) → groupAt (joined groups k last) j ≡ groupAt groups j
-    unfolding joined
-    join-other j f = either-case (λ (l : List Group). groupAt l j ≡ groupAt groups j) (isIndex k) _ groups (λ t. getD-set-other groups (k .0) (j .0) (more (groupAt groups k) last) idle f) (λ t. refl)
+    pub added-other : (j : PrgIndex) → (j .0 ≡ k .0 → ⊥) → groupAt (requestAdded groups k last) j ≡ groupAt groups j
+    unfolding requestAdded
+    added-other j f = either-case (λ (l : List Group). groupAt l j ≡ groupAt groups j) (isIndex k) _ groups (λ t. getD-set-other groups (k .0) (j .0) (oneMoreRequest (groupAt groups k) last) idle f) (λ t. refl)
 
 -- the group with an index
 module _ (groups : List Group) (all : length groups ≡ 32) (k : PrgIndex) (own : isIndex k ≡ true) where
@@ -84,31 +84,31 @@ module _ (groups : List Group) (all : length groups ≡ 32) (k : PrgIndex) (own 
   close-waits = rw (own, close-group)
 
   -- and the credits of its requests return, no more and no fewer
-  pub close-used : used (closed groups k) + groupAt groups k .requests ≡ used groups
-  unfolding used closed
+  pub close-used : usedCredits (closed groups k) + groupAt groups k .requests ≡ usedCredits groups
+  unfolding usedCredits closed
   close-used = rw own (omega (arith, sum-set requestsOf groups (k .0) idle idle within))
 
   module _ (last : Bool) where
     -- once joined has one request more,
-    pub join-group : groupAt (joined groups k last) k ≡ more (groupAt groups k) last
-    unfolding joined
-    join-group = rw own (getD-set-same groups (k .0) (more (groupAt groups k) last) idle within)
+    pub added-group : groupAt (requestAdded groups k last) k ≡ oneMoreRequest (groupAt groups k) last
+    unfolding requestAdded
+    added-group = rw own (getD-set-same groups (k .0) (oneMoreRequest (groupAt groups k) last) idle within)
 
     -- and waits if that is its last;
-    pub join-waits : isWaiting (joined groups k last) k ≡ last
+    pub added-waits : isWaiting (requestAdded groups k last) k ≡ last
     unfolding isWaiting
-    join-waits = rw (own, join-group)
+    added-waits = rw (own, added-group)
 
     module _ (allocation : ℕ) (small : allocation < 2 ^ 16) (some : isSpent groups allocation ≡ false) where
       -- where a credit was free one is taken, and no more,
-      pub join-used : used (joined groups k last) ≡ used groups + 1
-      unfolding used joined
-      join-used = rw own (omega (arith, close-used, free-lt groups allocation some, sum-set requestsOf groups (k .0) (more (groupAt groups k) last) idle within))
+      pub added-used : usedCredits (requestAdded groups k last) ≡ usedCredits groups + 1
+      unfolding usedCredits requestAdded
+      added-used = rw own (omega (arith, close-used, free-lt groups allocation some, sum-set requestsOf groups (k .0) (oneMoreRequest (groupAt groups k) last) idle within))
 
 -- so that never more are in use than the allocation
-pub join-fits : (groups : List Group) (all : length groups ≡ 32) (k : PrgIndex) (last : Bool) (allocation : ℕ) → allocation < 2 ^ 16 → isSpent groups allocation ≡ false → used (joined groups k last) ≤ allocation
-unfolding joined
-join-fits groups all k last allocation small some =
+pub added-fits : (groups : List Group) (all : length groups ≡ 32) (k : PrgIndex) (last : Bool) (allocation : ℕ) → allocation < 2 ^ 16 → isSpent groups allocation ≡ false → usedCredits (requestAdded groups k last) ≤ allocation
+unfolding requestAdded
+added-fits groups all k last allocation small some =
     byCases (isIndex k)
-    (λ own. omega (arith, join-used groups all k own last allocation small some, free-lt groups allocation some))
+    (λ own. omega (arith, added-used groups all k own last allocation small some, free-lt groups allocation some))
     (λ other. rw other (omega (arith, free-lt groups allocation some)))

@@ -4,7 +4,7 @@ use mathlib.Core.List.{List}
 use Prim.Native.Nat.{ℕ, _+_, _%_, _^_}
 use lib.Dec.{leb, ltb}
 use lib.ListN.{getD, set, replicate}
-use Rattle.lemmas.specs.Gather.{gather}
+use Rattle.lemmas.specs.Fold.{foldMap}
 use Rattle.packet.specs.declared.PrgIndex.{PrgIndex}
 use Rattle.pages.specs.declared.Interface.the-variants.{Off, On, Stopped}
 use Rattle.pages.specs.declared.Group.{Group}
@@ -40,18 +40,18 @@ abbrev pub requestsOf : Group → ℕ
 requestsOf g = g .requests
 
 -- the credits in use: one for each request of an open group
-unfoldable pub used : List Group → ℕ
-used groups = gather _+_ requestsOf groups
+unfoldable pub usedCredits : List Group → ℕ
+usedCredits groups = foldMap _+_ requestsOf groups
 
 unfoldable pub isSpent : List Group → ℕ → Bool
-isSpent groups allocation = leb allocation (used groups)
+isSpent groups allocation = leb allocation (usedCredits groups)
 
 -- a request more; after the last of a group the group waits
-abbrev pub more : Group → Bool → Group
-more g last = record { waits = last; requests = (g .requests + 1) % 2 ^ 16 }
+abbrev pub oneMoreRequest : Group → Bool → Group
+oneMoreRequest g last = record { waits = last; requests = (g .requests + 1) % 2 ^ 16 }
 
-unfoldable pub joined : List Group → PrgIndex → Bool → List Group
-joined groups k last = cond (isIndex k) (set groups (k .0) (more (groupAt groups k) last)) groups
+unfoldable pub requestAdded : List Group → PrgIndex → Bool → List Group
+requestAdded groups k last = cond (isIndex k) (set groups (k .0) (oneMoreRequest (groupAt groups k) last)) groups
 
 -- a group is closed and its credits return
 unfoldable pub closed : List Group → PrgIndex → List Group

@@ -2,7 +2,7 @@
 use packet::PrgIndex;
 ghost use mathlib.Core.Path.{_≡_};
 ghost use Prim.Native.Nat.{_≤_};
-ghost use Rattle.pages.specs.Pages.{idle, switchedOff, switchedOn, stopped, isIndex, isWaiting, requestsOf, used, isSpent, joined, closed, withGroups};
+ghost use Rattle.pages.specs.Pages.{idle, switchedOff, switchedOn, stopped, isIndex, isWaiting, requestsOf, usedCredits, isSpent, requestAdded, closed, withGroups};
 
 pub enum Interface {
     Off,
@@ -87,7 +87,7 @@ fn requests_of(g: Group) -> u32
 
 // The credits in use.
 fn used_credits(groups: [Group; 32]) -> u32
-    ensures { λ r. ⌜ r ≡ used groups ⌝ }
+    ensures { λ r. ⌜ r ≡ usedCredits groups ⌝ }
 {
     let mut sum: u32 = 0;
     let mut i: usize = 32;
@@ -107,8 +107,8 @@ pub fn is_spent(groups: [Group; 32], allocation: u16) -> bool
 }
 
 // One request more in a group.
-pub fn join(mut groups: [Group; 32], k: PrgIndex, last: bool) -> [Group; 32]
-    ensures { λ r. ⌜ r ≡ joined groups k last ⌝ }
+pub fn add_request(mut groups: [Group; 32], k: PrgIndex, last: bool) -> [Group; 32]
+    ensures { λ r. ⌜ r ≡ requestAdded groups k last ⌝ }
 {
     let i = k.0 as usize;
     if i < 32 {

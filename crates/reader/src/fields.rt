@@ -16,7 +16,7 @@ use packet::PrgResponse;
 use packet::Tag;
 use packet::TranslationRequest;
 ghost use mathlib.Core.Path.{_≡_};
-ghost use Rattle.packet.specs.Kinds.{headIn, longIn, trIn, memIn, fetchIn, countIn, cplIn, invIn, icIn, prqIn, prsIn, bodyIn};
+ghost use Rattle.packet.specs.Kinds.{headIn, address64In, trIn, memIn, readRequestIn, countIn, cplIn, invIn, icIn, prqIn, prsIn, bodyIn};
 
 pub(crate) fn head(f: Frame) -> Head
     ensures { λ r. ⌜ r ≡ headIn f ⌝ }
@@ -27,8 +27,8 @@ pub(crate) fn head(f: Frame) -> Head
     }
 }
 
-fn long(f: Frame) -> u64
-    ensures { λ r. ⌜ r ≡ longIn f ⌝ }
+fn address64(f: Frame) -> u64
+    ensures { λ r. ⌜ r ≡ address64In f ⌝ }
 {
     f.dword8 as u64 * 4294967296 + f.dword12 as u64
 }
@@ -38,7 +38,7 @@ fn tr(f: Frame, a: u64) -> Body
 {
     Body::Tr(TranslationRequest {
         tag: Tag(f.byte6),
-        words: f.words,
+        dwords: f.dwords,
         address: a / 4096 * 4096,
         nowrite: a % 2 == 1,
     })
@@ -49,14 +49,14 @@ fn mem(f: Frame, access: Access, a: u64) -> Body
 {
     Body::Mem(MemoryRequest {
         access,
-        words: f.words,
+        dwords: f.dwords,
         address: a / 4 * 4,
         translated: f.at == 2,
     })
 }
 
-fn fetch(f: Frame, a: u64) -> Body
-    ensures { λ r. ⌜ r ≡ fetchIn f a ⌝ }
+fn read_request(f: Frame, a: u64) -> Body
+    ensures { λ r. ⌜ r ≡ readRequestIn f a ⌝ }
 {
     if f.at == 1 {
         tr(f, a)
@@ -130,15 +130,15 @@ pub(crate) fn fields(m: Form, f: Frame) -> Body
     ensures { λ r. ⌜ r ≡ bodyIn m f ⌝ }
 {
     match m {
-        Form::Mrd32 => fetch(f, f.dword8 as u64),
-        Form::Mrd64 => fetch(f, long(f)),
+        Form::Mrd32 => read_request(f, f.dword8 as u64),
+        Form::Mrd64 => read_request(f, address64(f)),
         Form::Mwr32 => mem(f, Access::Write, f.dword8 as u64),
-        Form::Mwr64 => mem(f, Access::Write, long(f)),
+        Form::Mwr64 => mem(f, Access::Write, address64(f)),
         Form::CplNoData => cpl(f, Outcome::Status(f.byte6 / 32)),
-        Form::CplData => cpl(f, Outcome::Data(f.words)),
+        Form::CplData => cpl(f, Outcome::Data(f.dwords)),
         Form::InvReq => inv(f),
         Form::InvCpl => ic(f),
-        Form::PageReq => prq(long(f)),
+        Form::PageReq => prq(address64(f)),
         Form::PrgResp => prs(f),
     }
 }

@@ -2,11 +2,11 @@
 use packet::Choice;
 use packet::Form;
 use packet::Frame;
-use packet::dwords;
-use packet::enables;
+use packet::byte_enables;
+use packet::dword_count;
 ghost use mathlib.Core.Path.{_≡_};
-ghost use Rattle.packet.specs.Forms.{choose, lengthOf};
-ghost use Rattle.packet.specs.Kinds.{shapedMem, shapedFetch, shapedLong, shaped};
+ghost use Rattle.packet.specs.Forms.{choose, packetLength};
+ghost use Rattle.packet.specs.Kinds.{wellFormedMem, wellFormedReadRequest, wellFormed64, wellFormed};
 
 pub(crate) fn choice(byte0: u8, byte7: u8) -> Choice
     ensures { λ r. ⌜ r ≡ choose byte0 byte7 ⌝ }
@@ -36,61 +36,61 @@ pub(crate) fn choice(byte0: u8, byte7: u8) -> Choice
 }
 
 // How many bytes a packet of this form and Length has.
-pub(crate) fn length_of(m: Form, words: u16) -> usize
-    ensures { λ r. ⌜ r ≡ lengthOf m words ⌝ }
+pub(crate) fn length_of(m: Form, dwords: u16) -> usize
+    ensures { λ r. ⌜ r ≡ packetLength m dwords ⌝ }
 {
     match m {
         Form::Mrd32 => 12,
         Form::Mrd64 => 16,
-        Form::Mwr32 => 12 + dwords(words) * 4,
-        Form::Mwr64 => 16 + dwords(words) * 4,
+        Form::Mwr32 => 12 + dword_count(dwords) * 4,
+        Form::Mwr64 => 16 + dword_count(dwords) * 4,
         Form::CplNoData => 12,
-        Form::CplData => 12 + dwords(words) * 4,
-        Form::InvReq => 16 + dwords(words) * 4,
+        Form::CplData => 12 + dword_count(dwords) * 4,
+        Form::InvReq => 16 + dword_count(dwords) * 4,
         Form::InvCpl => 16,
         Form::PageReq => 16,
         Form::PrgResp => 16,
     }
 }
 
-fn is_shaped_mem(f: Frame) -> bool
-    ensures { λ r. ⌜ r ≡ shapedMem f ⌝ }
+fn is_well_formed_mem(f: Frame) -> bool
+    ensures { λ r. ⌜ r ≡ wellFormedMem f ⌝ }
 {
     if f.at % 2 == 0 {
-        f.byte7 == enables(f.words)
+        f.byte7 == byte_enables(f.dwords)
     } else {
         false
     }
 }
 
-fn is_shaped_fetch(f: Frame) -> bool
-    ensures { λ r. ⌜ r ≡ shapedFetch f ⌝ }
+fn is_well_formed_read_request(f: Frame) -> bool
+    ensures { λ r. ⌜ r ≡ wellFormedReadRequest f ⌝ }
 {
     if f.at == 1 {
         f.byte7 == 0xFF
     } else {
-        is_shaped_mem(f)
+        is_well_formed_mem(f)
     }
 }
 
 // A 64-bit form is shaped as the 32-bit one, and its upper half is not zero.
-fn is_shaped_long(f: Frame, rest: bool) -> bool
-    ensures { λ r. ⌜ r ≡ shapedLong f rest ⌝ }
+fn is_well_formed_64(f: Frame, rest: bool) -> bool
+    ensures { λ r. ⌜ r ≡ wellFormed64 f rest ⌝ }
 {
     if 0 < f.dword8 { rest } else { false }
 }
 
-pub(crate) fn is_shaped(m: Form, f: Frame) -> bool
-    ensures { λ r. ⌜ r ≡ shaped m f ⌝ }
+pub(crate) fn is_well_formed(m: Form, f: Frame) -> bool
+    ensures { λ r. ⌜ r ≡ wellFormed m f ⌝ }
 {
     match m {
-        Form::Mrd32 => is_shaped_fetch(f),
-        Form::Mrd64 => is_shaped_long(f, is_shaped_fetch(f)),
-        Form::Mwr32 => is_shaped_mem(f),
-        Form::Mwr64 => is_shaped_long(f, is_shaped_mem(f)),
+        Form::Mrd32 => is_well_formed_read_request(f),
+        Form::Mrd64 => is_well_formed_64(f, is_well_formed_read_request(f)),
+        Form::Mwr32 => is_well_formed_mem(f),
+        Form::Mwr64 => is_well_formed_64(f, is_well_formed_mem(f)),
         Form::CplNoData => true,
         Form::CplData => f.byte6 / 32 == 0,
-        Form::InvReq => f.words == 2,
+        Form::InvReq => f.dwords == 2,
         Form::InvCpl => true,
         Form::PageReq => true,
         Form::PrgResp => true,

@@ -12,26 +12,26 @@ use packet::Refusal;
 ghost use mathlib.Core.Path.{_≡_};
 ghost use Prim.Native.Nat.{_≤_};
 ghost use lib.ListN.{length, drop};
-ghost use Rattle.packet.specs.Frames.{frameOf, wordsAt};
-ghost use Rattle.packet.specs.Reading.{paperRead, reading, payloadIn, wordAt};
+ghost use Rattle.packet.specs.Frames.{decodeFrame, dwordsAt};
+ghost use Rattle.packet.specs.Reading.{readResult, reading, payloadIn, qwordAt};
 
-fn words(b: &[u8]) -> u16
+fn dwords(b: &[u8]) -> u16
     requires { ⌜ 12 ≤ length (now b) ⌝ }
-    ensures { λ r. ⌜ r ≡ wordsAt (now (b .entry)) ⌝ }
+    ensures { λ r. ⌜ r ≡ dwordsAt (now (b .entry)) ⌝ }
 {
     nums::at(b, 2) % 4 * 256 + nums::at(b, 3)
 }
 
-fn frame(b: &[u8]) -> Frame
+fn decode_frame(b: &[u8]) -> Frame
     requires { ⌜ 12 ≤ length (now b) ⌝ }
-    ensures { λ r. ⌜ r ≡ frameOf (now (b .entry)) ⌝ }
+    ensures { λ r. ⌜ r ≡ decodeFrame (now (b .entry)) ⌝ }
 {
     Frame {
         byte0: b[0],
         tc: b[1] / 16 % 8,
         marks: b[2] / 64,
         at: b[2] / 4 % 4,
-        words: words(b),
+        dwords: dwords(b),
         sender: nums::num16(b, 4),
         byte6: b[6],
         byte7: b[7],
@@ -42,18 +42,18 @@ fn frame(b: &[u8]) -> Frame
 }
 
 pub fn read_packet(b: &[u8]) -> Reading
-    ensures { λ r. ⌜ paperRead r ≡ reading (now (b .entry)) ⌝ }
+    ensures { λ r. ⌜ readResult r ≡ reading (now (b .entry)) ⌝ }
 {
     if b.len() < 12 {
-        return Reading::Refused(Refusal::Length);
+        return Reading::Refused(Refusal::BadLength);
     }
     if 144 < b.len() {
-        return Reading::Refused(Refusal::Length);
+        return Reading::Refused(Refusal::BadLength);
     }
-    let f = frame(b);
+    let f = decode_frame(b);
     match forms::choice(f.byte0, f.byte7) {
         Choice::Listed(m) => order::read_form(m, f, b.len()),
-        Choice::Unlisted => Reading::Refused(Refusal::Kind),
+        Choice::Unlisted => Reading::Refused(Refusal::UnsupportedKind),
     }
 }
 
@@ -72,14 +72,14 @@ pub fn payload(b: &[u8]) -> &[u8]
         return &b[..0];
     }
     match forms::choice(b[0], b[7]) {
-        Choice::Listed(m) => part_from(b, packet::fixed(m)),
+        Choice::Listed(m) => part_from(b, packet::payload_offset(m)),
         Choice::Unlisted => &b[..0],
     }
 }
 
-// Word k of a payload, eight bytes each; 0 past the last whole one.
-pub fn word(payload: &[u8], k: usize) -> u64
-    ensures { λ r. ⌜ r ≡ wordAt (now (payload .entry)) k ⌝ }
+// QWORD k of a payload; 0 past the last whole one.
+pub fn qword(payload: &[u8], k: usize) -> u64
+    ensures { λ r. ⌜ r ≡ qwordAt (now (payload .entry)) k ⌝ }
 {
     if k < payload.len() / 8 {
         nums::num64(payload, 8 * k)

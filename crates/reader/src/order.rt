@@ -7,21 +7,21 @@ use packet::Packet;
 use packet::Reading;
 use packet::Refusal;
 ghost use mathlib.Core.Path.{_≡_};
-ghost use Rattle.packet.specs.Reading.{paperRead, readForm};
+ghost use Rattle.packet.specs.Reading.{readResult, readForm};
 
 // n is the packet's length.
 pub(crate) fn read_form(m: Form, f: Frame, n: usize) -> Reading
-    ensures { λ r. ⌜ paperRead r ≡ readForm m f n ⌝ }
+    ensures { λ r. ⌜ readResult r ≡ readForm m f n ⌝ }
 {
-    let expected = forms::length_of(m, f.words);
+    let expected = forms::length_of(m, f.dwords);
     let marks = f.marks;
     if n != expected {
-        return Reading::Refused(Refusal::Length);
+        return Reading::Refused(Refusal::BadLength);
     }
     if marks != 0 {
-        return Reading::Refused(Refusal::Marked);
+        return Reading::Refused(Refusal::PoisonedOrDigest);
     }
-    if forms::is_shaped(m, f) {
+    if forms::is_well_formed(m, f) {
         let body = fields::fields(m, f);
         if packet::is_allowed(f.tc, body) {
             return Reading::Read(Packet {
@@ -30,5 +30,5 @@ pub(crate) fn read_form(m: Form, f: Frame, n: usize) -> Reading
             });
         }
     }
-    Reading::Refused(Refusal::Forbidden)
+    Reading::Refused(Refusal::ForbiddenValue)
 }

@@ -11,7 +11,7 @@ use lib.ListN.{length, take, drop, set, getD, length-append, length-drop, take-a
 use lib.Seq.{length-take-le, take-at, drop-at, drop-drop, append-snoc, set-split, paste, paste-suc, take-length}
 use borrow.Author.Tests.{le-ltb}
 use Rattle.packet.specs.declared.Packet.{Packet}
-use Rattle.packet.specs.Numbers.{Said}
+use Rattle.packet.specs.Numbers.{Result}
 use Rattle.text.specs.Digits.{decimal}
 use Rattle.rows.specs.Rows.{atStart, answerText, outLine, rowIn}
 use Rattle.rows.specs.Places.{lay, Laid}
@@ -57,7 +57,7 @@ pub at-start : (s l : List ℕ) (n : ℕ) (m : List ℕ) → Laid 0 s l n m → 
 at-start s l n m p = (λ k. (p .0 k, p .1 k)) ∙ rw zero-add
 
 -- a whole line: number, tab, answer, line feed
-pub row : (k : ℕ) (a : Said Packet) (out : List ℕ) (n : ℕ) (l : List ℕ) (b : ℕ) (m : List ℕ) (c : ℕ) (u : List ℕ) (e : ℕ) (v : List ℕ) → 64 ≤ length out
+pub row : (k : ℕ) (a : Result Packet) (out : List ℕ) (n : ℕ) (l : List ℕ) (b : ℕ) (m : List ℕ) (c : ℕ) (u : List ℕ) (e : ℕ) (v : List ℕ) → 64 ≤ length out
     → Laid 0 (decimal k) out n l → Laid n (9 ∷ []) l b m → Laid b (answerText a) m c u → Laid c (10 ∷ []) u e v → (e, v) ≡ rowIn (outLine k a) out
 unfolding rowIn outLine
 row k a out n l b m c u e v room p q r s =

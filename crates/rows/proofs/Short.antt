@@ -9,7 +9,7 @@ use Rattle.packet.specs.declared.Access.{Access}
 use Rattle.packet.specs.declared.Access.the-variants.{Read, Write}
 use Rattle.packet.specs.declared.Body.{Body}
 use Rattle.packet.specs.declared.Body.the-variants.{Tr, Mem, Cpl, Inv, Ic, Prq, Prs}
-use Rattle.packet.specs.Numbers.{Said, gives, number}
+use Rattle.packet.specs.Numbers.{Result, ok, refusal}
 use Rattle.text.specs.Digits.{hex4, decimal}
 use Rattle.text.proofs.Numerals.{decimal-short}
 use Rattle.rows.specs.Rows.{kindText, accessText, labelText, answerText, outLine}
@@ -36,19 +36,19 @@ label-short (Ic i) = lit≤ tt
 label-short (Prq q) = decimal-short (q .index .0)
 label-short (Prs s) = decimal-short (s .index .0)
 
-pub answer-short : (a : Said Packet) → length (answerText a) ≤ 29
-answer-short (gives p) =
+pub answer-short : (a : Result Packet) → length (answerText a) ≤ 29
+answer-short (ok p) =
     let k = kind-short (p .body) in
     let l = label-short (p .body) in
     let e = length-append (kindText (p .body) ++ 9 ∷ hex4 (p .head .sender)) (9 ∷ labelText (p .body)) in
     let f = length-append (kindText (p .body)) (9 ∷ hex4 (p .head .sender)) in
     omega arith
-answer-short (number n) =
+answer-short (refusal n) =
     let d = decimal-short n in
     let e = length-append (decimal n) (9 ∷ 45 ∷ []) in
     omega arith
 
-pub outLine-short : (k : ℕ) (a : Said Packet) → length (outLine k a) ≤ 64
+pub outLine-short : (k : ℕ) (a : Result Packet) → length (outLine k a) ≤ 64
 unfolding outLine
 outLine-short k a =
     let d = decimal-short k in

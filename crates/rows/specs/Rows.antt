@@ -9,7 +9,7 @@ use Rattle.packet.specs.declared.Access.{Access}
 use Rattle.packet.specs.declared.Access.the-variants.{Read, Write}
 use Rattle.packet.specs.declared.Body.{Body}
 use Rattle.packet.specs.declared.Body.the-variants.{Tr, Mem, Cpl, Inv, Ic, Prq, Prs}
-use Rattle.packet.specs.Numbers.{Said, gives, number}
+use Rattle.packet.specs.Numbers.{Result, ok, refusal}
 use Rattle.text.specs.Digits.{hex4, hex8, decimal}
 
 -- T, R; M, E, M; ..
@@ -38,12 +38,12 @@ labelText (Prq q) = decimal (q .index .0)
 labelText (Prs s) = decimal (s .index .0)
 
 -- kind, sender and label; or BAD, the number and "-"
-abbrev pub answerText : Said Packet → List ℕ
-answerText (gives p) = kindText (p .body) ++ 9 ∷ hex4 (p .head .sender) ++ 9 ∷ labelText (p .body)
-answerText (number n) = 66 ∷ 65 ∷ 68 ∷ 9 ∷ decimal n ++ 9 ∷ 45 ∷ []
+abbrev pub answerText : Result Packet → List ℕ
+answerText (ok p) = kindText (p .body) ++ 9 ∷ hex4 (p .head .sender) ++ 9 ∷ labelText (p .body)
+answerText (refusal n) = 66 ∷ 65 ∷ 68 ∷ 9 ∷ decimal n ++ 9 ∷ 45 ∷ []
 
 -- the output line of line k, of which so much is said
-unfoldable pub outLine : ℕ → Said Packet → List ℕ
+unfoldable pub outLine : ℕ → Result Packet → List ℕ
 outLine k a = decimal k ++ 9 ∷ answerText a ++ 10 ∷ []
 
 -- the length of a text, and the text at the start of a buffer

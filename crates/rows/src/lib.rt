@@ -4,13 +4,13 @@ mod words;
 
 use packet::Packet;
 ghost use mathlib.Core.Path.{_≡_};
-ghost use Rattle.packet.specs.Numbers.{gives, number};
+ghost use Rattle.packet.specs.Numbers.{ok, refusal};
 ghost use Rattle.rows.specs.Rows.{outLine, rowIn};
 
 // The output line of line k, which is packet p, at the start of `out`, and its length. An `out` of
 // fewer than 64 bytes is left as it was.
 pub fn packet_row(k: u64, p: Packet, out: &mut [u8]) -> usize
-    ensures { λ r. ⌜ (r, now (out .exit)) ≡ rowIn (outLine k (gives p)) (now (out .entry)) ⌝ }
+    ensures { λ r. ⌜ (r, now (out .exit)) ≡ rowIn (outLine k (ok p)) (now (out .entry)) ⌝ }
 {
     if out.len() < 64 {
         return 0;
@@ -23,7 +23,7 @@ pub fn packet_row(k: u64, p: Packet, out: &mut [u8]) -> usize
 
 // The same of line k, which is refused with number n.
 pub fn bad_row(k: u64, n: u8, out: &mut [u8]) -> usize
-    ensures { λ r. ⌜ (r, now (out .exit)) ≡ rowIn (outLine k (number n)) (now (out .entry)) ⌝ }
+    ensures { λ r. ⌜ (r, now (out .exit)) ≡ rowIn (outLine k (refusal n)) (now (out .entry)) ⌝ }
 {
     if out.len() < 64 {
         return 0;

@@ -7,7 +7,7 @@ ghost use mathlib.Core.List.{[], _∷_};
 ghost use Prim.Native.Nat.{_+_, _≤_, _<_};
 ghost use lib.ListN.{length};
 ghost use Rattle.text.specs.Digits.{decimal, hex4, hex8};
-ghost use Rattle.packet.specs.Numbers.{gives, number};
+ghost use Rattle.packet.specs.Numbers.{ok, refusal};
 ghost use Rattle.rows.specs.Rows.{answerText};
 ghost use Rattle.rows.specs.Words.{lettersText, printedLabel};
 ghost use Rattle.rows.specs.Places.{Laid};
@@ -87,7 +87,7 @@ fn label(out: &mut [u8], at: usize, l: Label) -> usize
 
 pub(crate) fn packet(out: &mut [u8], at: usize, p: Packet) -> usize
     requires { ⌜ at + 29 ≤ length (now out) ⌝ }
-    ensures { λ r. ⌜ Laid at (answerText (gives p)) (now (out .entry)) r (now (out .exit)) ⌝ }
+    ensures { λ r. ⌜ Laid at (answerText (ok p)) (now (out .entry)) r (now (out .exit)) ⌝ }
     ensures { λ r. ⌜ r ≤ at + 29 ⌝ }
 {
     let body = p.body;
@@ -100,7 +100,7 @@ pub(crate) fn packet(out: &mut [u8], at: usize, p: Packet) -> usize
 
 pub(crate) fn bad(out: &mut [u8], at: usize, n: u8) -> usize
     requires { ⌜ at + 29 ≤ length (now out) ⌝ }
-    ensures { λ r. ⌜ Laid at (answerText (number n)) (now (out .entry)) r (now (out .exit)) ⌝ }
+    ensures { λ r. ⌜ Laid at (answerText (refusal n)) (now (out .entry)) r (now (out .exit)) ⌝ }
     ensures { λ r. ⌜ r ≤ at + 29 ⌝ }
 {
     let a = text(out, at, b"BAD\t");

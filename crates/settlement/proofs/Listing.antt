@@ -2,7 +2,7 @@
 use mathlib.Core.Path.{_≡_, sym, ap, _∙_}
 use contract.Lifetimes.{Lfts}
 use denote.Ref.{now}
-use Rattle.lister.proofs.Told.{line-told}
+use Rattle.lister.proofs.Injective.{lineResult-injective}
 use Rattle.lister.proofs.read_line.Reads as read-line
 use Rattle.lister.proofs.list_line.Reads as list-line
 use Rattle.lister.proofs.start.Reads as start
@@ -10,7 +10,7 @@ use Rattle.lister.proofs.feed.Reads as feed
 use Rattle.lister.proofs.finish.Reads as finish
 
 pub read-line-settled : (κs : Lfts 1) (args : _) (x y : _) (e g : _) → read-line.Learnt κs args x e → read-line.Learnt κs args y g → x ≡ y
-read-line-settled κs args x y e g p q = line-told x y (p ∙ sym q)
+read-line-settled κs args x y e g p q = lineResult-injective x y (p ∙ sym q)
 
 pub list-line-settled : (κs : Lfts 2) (args : _) (x y : _) (e g : _) → list-line.Learnt κs args x e → list-line.Learnt κs args y g → (x ≡ y) × (now (e .1 .1 .0) ≡ now (g .1 .1 .0))
 list-line-settled κs args x y e g p q = (ap (λ o. o .0) (p ∙ sym q), ap (λ o. o .1) (p ∙ sym q))

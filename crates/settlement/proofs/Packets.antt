@@ -2,27 +2,27 @@
 use mathlib.Core.Path.{_≡_, sym, _∙_}
 use contract.Lifetimes.{Lfts}
 use denote.Ref.{now}
-use Rattle.packet.proofs.Told.{read-told, written-told}
+use Rattle.packet.proofs.Injective.{readResult-injective, writeResult-injective}
 use Rattle.reader.proofs.read_packet.Reads as read-packet
 use Rattle.reader.proofs.payload.Reads as payload
 use Rattle.reader.proofs.part_from.Reads as part-from
 use Rattle.writer.proofs.write_packet.Reads as write-packet
 use Rattle.packet.proofs.number.Reads as number
 use Rattle.tlp.proofs.translation_at.Reads as translation-at
-use Rattle.span.proofs.size_of.Reads as size-of
-use Rattle.span.proofs.translation_of.Reads as translation-of
-use Rattle.span.proofs.unit_exponent.Reads as unit-exponent
-use Rattle.span.proofs.unit_bytes.Reads as unit-bytes
-use Rattle.span.proofs.region.Reads as region
-use Rattle.span.proofs.region_number.Reads as region-number
-use Rattle.span.proofs.rounded.Reads as rounded
-use Rattle.span.proofs.reach.Reads as reach
-use Rattle.span.proofs.run.Reads as run
-use Rattle.span.proofs.moved.Reads as moved
-use Rattle.span.proofs.meets.Reads as meets
+use Rattle.ranges.proofs.size_of.Reads as size-of
+use Rattle.ranges.proofs.translation_of.Reads as translation-of
+use Rattle.ranges.proofs.unit_exponent.Reads as unit-exponent
+use Rattle.ranges.proofs.unit_bytes.Reads as unit-bytes
+use Rattle.ranges.proofs.region.Reads as region
+use Rattle.ranges.proofs.region_number.Reads as region-number
+use Rattle.ranges.proofs.rounded.Reads as rounded
+use Rattle.ranges.proofs.range_from.Reads as range-from
+use Rattle.ranges.proofs.units_from.Reads as units-from
+use Rattle.ranges.proofs.relocate.Reads as relocate
+use Rattle.ranges.proofs.overlaps.Reads as overlaps
 
 pub read-packet-settled : (κs : Lfts 1) (args : _) (x y : _) (e g : _) → read-packet.Learnt κs args x e → read-packet.Learnt κs args y g → x ≡ y
-read-packet-settled κs args x y e g p q = read-told x y (p ∙ sym q)
+read-packet-settled κs args x y e g p q = readResult-injective x y (p ∙ sym q)
 
 pub payload-settled : (κs : Lfts 1) (args : _) (x y : _) (e g : _) → payload.Learnt κs args x e → payload.Learnt κs args y g → now x ≡ now y
 payload-settled κs args x y e g p q = p ∙ sym q
@@ -31,7 +31,7 @@ pub part-from-settled : (κs : Lfts 1) (args : _) (x y : _) (e g : _) → part-f
 part-from-settled κs args x y e g p q = p ∙ sym q
 
 pub write-packet-settled : (κs : Lfts 2) (args : _) (x y : _) (e g : _) → write-packet.Learnt κs args x e → write-packet.Learnt κs args y g → (x ≡ y) × (now (e .1 .1 .0) ≡ now (g .1 .1 .0))
-write-packet-settled κs args x y e g p q = (written-told x y (p .0 ∙ sym (q .0)), p .1 ∙ sym (q .1))
+write-packet-settled κs args x y e g p q = (writeResult-injective x y (p .0 ∙ sym (q .0)), p .1 ∙ sym (q .1))
 
 pub number-settled : (κs : Lfts 0) (args : _) (x y : _) (e g : _) → number.Learnt κs args x e → number.Learnt κs args y g → x ≡ y
 number-settled κs args x y e g p q = p ∙ sym q
@@ -60,14 +60,14 @@ region-number-settled κs args x y e g p q = p ∙ sym q
 pub rounded-settled : (κs : Lfts 0) (args : _) (x y : _) (e g : _) → rounded.Learnt κs args x e → rounded.Learnt κs args y g → x ≡ y
 rounded-settled κs args x y e g p q = p ∙ sym q
 
-pub reach-settled : (κs : Lfts 0) (args : _) (x y : _) (e g : _) → reach.Learnt κs args x e → reach.Learnt κs args y g → x ≡ y
-reach-settled κs args x y e g p q = p ∙ sym q
+pub range-from-settled : (κs : Lfts 0) (args : _) (x y : _) (e g : _) → range-from.Learnt κs args x e → range-from.Learnt κs args y g → x ≡ y
+range-from-settled κs args x y e g p q = p ∙ sym q
 
-pub run-settled : (κs : Lfts 0) (args : _) (x y : _) (e g : _) → run.Learnt κs args x e → run.Learnt κs args y g → x ≡ y
-run-settled κs args x y e g p q = p ∙ sym q
+pub units-from-settled : (κs : Lfts 0) (args : _) (x y : _) (e g : _) → units-from.Learnt κs args x e → units-from.Learnt κs args y g → x ≡ y
+units-from-settled κs args x y e g p q = p ∙ sym q
 
-pub moved-settled : (κs : Lfts 0) (args : _) (x y : _) (e g : _) → moved.Learnt κs args x e → moved.Learnt κs args y g → x ≡ y
-moved-settled κs args x y e g p q = p ∙ sym q
+pub relocate-settled : (κs : Lfts 0) (args : _) (x y : _) (e g : _) → relocate.Learnt κs args x e → relocate.Learnt κs args y g → x ≡ y
+relocate-settled κs args x y e g p q = p ∙ sym q
 
-pub meets-settled : (κs : Lfts 0) (args : _) (x y : _) (e g : _) → meets.Learnt κs args x e → meets.Learnt κs args y g → x ≡ y
-meets-settled κs args x y e g p q = p ∙ sym q
+pub overlaps-settled : (κs : Lfts 0) (args : _) (x y : _) (e g : _) → overlaps.Learnt κs args x e → overlaps.Learnt κs args y g → x ≡ y
+overlaps-settled κs args x y e g p q = p ∙ sym q

@@ -1,2 +1,2 @@
-pub mod Ends
+pub mod Commits
 pub mod Laws

@@ -7,13 +7,13 @@ use Rattle.packet.specs.declared.Head.{Head}
 use Rattle.packet.specs.declared.Tag.{Tag}
 use Rattle.atc.specs.declared.Cache.{Cache}
 use Rattle.atc.specs.Cache.{blank}
-use Rattle.tags.specs.declared.Open.{Open}
-use Rattle.tags.specs.declared.Place.{Place}
-use Rattle.tags.specs.Tags.{emptyPlaces, placed}
+use Rattle.tags.specs.declared.TagState.{TagState}
+use Rattle.tags.specs.declared.TagRow.{TagRow}
+use Rattle.tags.specs.Tags.{allFree, setTag}
 use Rattle.pages.specs.declared.Pages.{Pages}
 use Rattle.pages.specs.Pages.{switchedOff}
-use Rattle.replies.specs.declared.Rcb.{Rcb}
-use Rattle.replies.specs.declared.Rcb.the-variants.{B64, B128}
+use Rattle.translations.specs.declared.Rcb.{Rcb}
+use Rattle.translations.specs.declared.Rcb.the-variants.{B64, B128}
 use Rattle.state.specs.declared.Agent.{Agent}
 use Rattle.state.specs.declared.Agent.the-variants.{Unknown}
 use Rattle.state.specs.declared.Function.{Function}
@@ -40,13 +40,13 @@ fresh id stu rcb =
       agent = Unknown;
       waiting = 0;
       cache = blank;
-      places = emptyPlaces;
+      tags = allFree;
       pages = switchedOff;
     }
 
 -- the Function with its parts changed; below, with one of them
-abbrev pub remade : Function → Bool → Agent → ℕ → Cache → List Place → Pages → Function
-remade f enabled agent waiting cache places pages =
+abbrev pub remade : Function → Bool → Agent → ℕ → Cache → List TagRow → Pages → Function
+remade f enabled agent waiting cache tags pages =
     record {
       id = f .id;
       stu = f .stu;
@@ -55,27 +55,27 @@ remade f enabled agent waiting cache places pages =
       agent = agent;
       waiting = waiting;
       cache = cache;
-      places = places;
+      tags = tags;
       pages = pages;
     }
 
 abbrev pub withEnable : Function → Bool → Function
-withEnable f enabled = remade f enabled (f .agent) (f .waiting) (f .cache) (f .places) (f .pages)
+withEnable f enabled = remade f enabled (f .agent) (f .waiting) (f .cache) (f .tags) (f .pages)
 
 abbrev pub withAgent : Function → Agent → Function
-withAgent f agent = remade f (f .enabled) agent (f .waiting) (f .cache) (f .places) (f .pages)
+withAgent f agent = remade f (f .enabled) agent (f .waiting) (f .cache) (f .tags) (f .pages)
 
 abbrev pub withWaiting : Function → ℕ → Function
-withWaiting f waiting = remade f (f .enabled) (f .agent) waiting (f .cache) (f .places) (f .pages)
+withWaiting f waiting = remade f (f .enabled) (f .agent) waiting (f .cache) (f .tags) (f .pages)
 
 abbrev pub withCache : Function → Cache → Function
-withCache f cache = remade f (f .enabled) (f .agent) (f .waiting) cache (f .places) (f .pages)
+withCache f cache = remade f (f .enabled) (f .agent) (f .waiting) cache (f .tags) (f .pages)
 
-abbrev pub withPlaces : Function → List Place → Function
-withPlaces f places = remade f (f .enabled) (f .agent) (f .waiting) (f .cache) places (f .pages)
+abbrev pub withTags : Function → List TagRow → Function
+withTags f tags = remade f (f .enabled) (f .agent) (f .waiting) (f .cache) tags (f .pages)
 
 abbrev pub withPages : Function → Pages → Function
-withPages f pages = remade f (f .enabled) (f .agent) (f .waiting) (f .cache) (f .places) pages
+withPages f pages = remade f (f .enabled) (f .agent) (f .waiting) (f .cache) (f .tags) pages
 
-abbrev pub withPlace : Function → Tag → Open → Function
-withPlace f t o = withPlaces f (placed (f .places) t o)
+abbrev pub withTag : Function → Tag → TagState → Function
+withTag f t o = withTags f (setTag (f .tags) t o)

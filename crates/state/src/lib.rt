@@ -5,14 +5,14 @@ use packet::Refusal;
 use packet::Tag;
 use pages::Interface;
 use pages::Pages;
-use replies::Rcb;
-use tags::Open;
-use tags::Place;
+use tags::TagRow;
+use tags::TagState;
+use translations::Rcb;
 ghost use mathlib.Core.Path.{_≡_};
 ghost use mathlib.Core.List.{[]};
-ghost use Rattle.state.specs.State.{headOf, fresh, withEnable, withAgent, withWaiting, withCache, withPlaces, withPages, withPlace, isRcb, rcbOf};
-ghost use Rattle.state.specs.Answers.{refusedWith, plain, told, ended};
-ghost use Rattle.state.specs.Switches.{resetting, enabling, disabling, switchingOn, switchingOff, isGranted};
+ghost use Rattle.state.specs.State.{headOf, fresh, withEnable, withAgent, withWaiting, withCache, withTags, withPages, withTag, isRcb, rcbOf};
+ghost use Rattle.state.specs.Answers.{refusedWith, withoutPacket, observed, commit};
+ghost use Rattle.state.specs.Switches.{resetting, enabling, disabling, switchingOn, switchingOff, isAllocation};
 
 // Who sends Invalidate Requests; known from the first accepted one on.
 pub enum Agent {
@@ -29,7 +29,7 @@ pub struct Function {
     pub agent: Agent,
     pub waiting: u32,
     pub cache: Cache,
-    pub places: [Place; 32],
+    pub tags: [TagRow; 32],
     pub pages: Pages,
 }
 
@@ -68,7 +68,7 @@ pub fn with_agent(f: Function, agent: Agent) -> Function
 {
     let rcb = f.rcb;
     let cache = f.cache;
-    let places = f.places;
+    let tags = f.tags;
     let pages = f.pages;
     Function {
         id: f.id,
@@ -78,7 +78,7 @@ pub fn with_agent(f: Function, agent: Agent) -> Function
         agent,
         waiting: f.waiting,
         cache,
-        places,
+        tags,
         pages,
     }
 }
@@ -97,10 +97,10 @@ pub fn with_cache(mut f: Function, cache: Cache) -> Function
     f
 }
 
-pub fn with_places(mut f: Function, places: [Place; 32]) -> Function
-    ensures { λ r. ⌜ r ≡ withPlaces f places ⌝ }
+pub fn with_tags(mut f: Function, tags: [TagRow; 32]) -> Function
+    ensures { λ r. ⌜ r ≡ withTags f tags ⌝ }
 {
-    f.places = places;
+    f.tags = tags;
     f
 }
 
@@ -112,12 +112,12 @@ pub fn with_pages(mut f: Function, pages: Pages) -> Function
 }
 
 // One tag is open for something else, or free.
-pub fn with_place(f: Function, t: Tag, o: Open) -> Function
-    ensures { λ r. ⌜ r ≡ withPlace f t o ⌝ }
+pub fn with_tag(f: Function, t: Tag, o: TagState) -> Function
+    ensures { λ r. ⌜ r ≡ withTag f t o ⌝ }
 {
-    let places = f.places;
-    let next = tags::hold(places, t, o);
-    with_places(f, next)
+    let tags = f.tags;
+    let next = tags::set_tag(tags, t, o);
+    with_tags(f, next)
 }
 
 pub fn refused(f: Function, r: Refusal) -> Effect
@@ -128,7 +128,7 @@ pub fn refused(f: Function, r: Refusal) -> Effect
 
 // A call that sends nothing.
 pub fn answered(f: Function, answer: Answer) -> Effect
-    ensures { λ o. ⌜ o ≡ plain f answer ⌝ }
+    ensures { λ o. ⌜ o ≡ withoutPacket f answer ⌝ }
 {
     Effect {
         state: f,
@@ -142,7 +142,7 @@ fn fresh_function(id: u16, stu: u8, rcb: Rcb) -> Function
 {
     let agent = Agent::Unknown;
     let cache = atc::new();
-    let places = tags::all_free();
+    let tags = tags::all_free();
     let pages = pages::off();
     Function {
         id,
@@ -152,7 +152,7 @@ fn fresh_function(id: u16, stu: u8, rcb: Rcb) -> Function
         agent,
         waiting: 0,
         cache,
-        places,
+        tags,
         pages,
     }
 }
@@ -178,52 +178,52 @@ fn rcb_of(bytes: u8) -> Rcb
 }
 
 // What a reset sets.
-pub struct Resetting {
+pub struct ResetArgs {
     pub id: u16,
     pub stu: u8,
     pub rcb: u8,
 }
 
-pub fn reset(f: Function, a: Resetting) -> Effect
-    ensures { λ r. ⌜ told r [] ≡ ended f [] (resetting a) ⌝ }
+pub fn reset(f: Function, a: ResetArgs) -> Effect
+    ensures { λ r. ⌜ observed r [] ≡ commit f [] (resetting a) ⌝ }
 {
     if 31 < a.stu {
-        return refused(f, Refusal::Argument);
+        return refused(f, Refusal::BadArgument);
     }
     if is_rcb(a.rcb) {
         let rcb = rcb_of(a.rcb);
         answered(fresh_function(a.id, a.stu, rcb), Answer::Done)
     } else {
-        refused(f, Refusal::Argument)
+        refused(f, Refusal::BadArgument)
     }
 }
 
 // E goes from clear to set: the cache is emptied and open Translation Requests are out of date.
 pub fn enable(f: Function) -> Effect
-    ensures { λ r. ⌜ told r [] ≡ ended f [] (enabling f) ⌝ }
+    ensures { λ r. ⌜ observed r [] ≡ commit f [] (enabling f) ⌝ }
 {
     if f.enabled {
         return answered(f, Answer::Done);
     }
-    let places = f.places;
+    let tags = f.tags;
     let cache = f.cache;
     let emptied = atc::empty(cache);
-    let staled = tags::stale_all(places);
+    let staled = tags::all_stale(tags);
     answered(
-        with_enable(with_cache(with_places(f, staled), emptied), true),
+        with_enable(with_cache(with_tags(f, staled), emptied), true),
         Answer::Done,
     )
 }
 
 pub fn disable(f: Function) -> Effect
-    ensures { λ r. ⌜ told r [] ≡ ended f [] (disabling f) ⌝ }
+    ensures { λ r. ⌜ observed r [] ≡ commit f [] (disabling f) ⌝ }
 {
     answered(with_enable(f, false), Answer::Done)
 }
 
 // An allocation is 1 to 512.
-fn is_granted(allocation: u16) -> bool
-    ensures { λ r. ⌜ r ≡ isGranted allocation ⌝ }
+fn is_allocation(allocation: u16) -> bool
+    ensures { λ r. ⌜ r ≡ isAllocation allocation ⌝ }
 {
     if 1 <= allocation {
         allocation <= 512
@@ -233,30 +233,30 @@ fn is_granted(allocation: u16) -> bool
 }
 
 fn switch_on(f: Function, allocation: u16) -> Effect
-    ensures { λ r. ⌜ told r [] ≡ ended f [] (switchingOn f allocation Interface.Off) ⌝ }
+    ensures { λ r. ⌜ observed r [] ≡ commit f [] (switchingOn f allocation Interface.Off) ⌝ }
 {
-    if is_granted(allocation) {
+    if is_allocation(allocation) {
         let pages = pages::on(allocation);
         answered(with_pages(f, pages), Answer::Done)
     } else {
-        refused(f, Refusal::Argument)
+        refused(f, Refusal::BadArgument)
     }
 }
 
 pub fn pages_on(f: Function, allocation: u16) -> Effect
-    ensures { λ r. ⌜ told r [] ≡ ended f [] (switchingOn f allocation (f .pages .interface)) ⌝ }
+    ensures { λ r. ⌜ observed r [] ≡ commit f [] (switchingOn f allocation (f .pages .interface)) ⌝ }
 {
     let pages = f.pages;
     let interface = pages.interface;
     match interface {
         Interface::Off => switch_on(f, allocation),
-        Interface::On => refused(f, Refusal::Argument),
-        Interface::Stopped => refused(f, Refusal::PagesOff),
+        Interface::On => refused(f, Refusal::BadArgument),
+        Interface::Stopped => refused(f, Refusal::PagesNotOn),
     }
 }
 
 pub fn pages_off(f: Function) -> Effect
-    ensures { λ r. ⌜ told r [] ≡ ended f [] (switchingOff f (f .pages .interface)) ⌝ }
+    ensures { λ r. ⌜ observed r [] ≡ commit f [] (switchingOff f (f .pages .interface)) ⌝ }
 {
     let pages = f.pages;
     let interface = pages.interface;

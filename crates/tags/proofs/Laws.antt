@@ -11,237 +11,237 @@ use lib.Pow.{pow-lt}
 use lib.ListN.{length, getD, length-set, length-map, getD-replicate, List·getD-eq-default, List·getD-map}
 use lib.Seq.{getD-set-same, getD-set-other}
 use borrow.Author.Tests.{eqb-true, eqb-false, ltb-true, ltb-false}
-use Rattle.lemmas.proofs.Cases.{byCases, or-true, never-both}
+use Rattle.lemmas.proofs.Cases.{byCases, or-true, never-both, impossible}
 use Rattle.lemmas.proofs.Bools.{no-tf}
-use Rattle.lemmas.specs.First.{firstAt}
+use Rattle.lemmas.specs.First.{firstIndex}
 use Rattle.lemmas.proofs.First.{first-holds}
 use Rattle.lemmas.proofs.Bits.{or-set, without-set, none-set, power-set}
-use Rattle.lemmas.specs.Gather.{gather}
-use Rattle.span.specs.declared.Range.{Range}
-use Rattle.span.specs.Range.{runOf, reachOf, meetsOf}
+use Rattle.lemmas.specs.Fold.{foldMap}
+use Rattle.ranges.specs.declared.Range.{Range}
+use Rattle.ranges.specs.Range.{unitsFrom, rangeFrom, overlaps}
 use Rattle.packet.specs.declared.Tag.{Tag}
 use Rattle.packet.specs.declared.ITag.{ITag}
-use Rattle.tags.specs.declared.Open.{Open}
-use Rattle.tags.specs.declared.Open.the-variants.{Free, Ask, Read}
-use Rattle.tags.specs.declared.Tr.{Tr}
-use Rattle.tags.specs.declared.Fetch.{Fetch}
-use Rattle.tags.specs.declared.Place.{Place}
+use Rattle.tags.specs.declared.TagState.{TagState}
+use Rattle.tags.specs.declared.TagState.the-variants.{Free, Translate, Read}
+use Rattle.tags.specs.declared.PendingTranslation.{PendingTranslation}
+use Rattle.tags.specs.declared.PendingRead.{PendingRead}
+use Rattle.tags.specs.declared.TagRow.{TagRow}
 use Rattle.tags.specs.declared.FreeTag.the-variants.{Lowest, NoneFree}
-use Rattle.tags.specs.Itags.{place, isIn, joined, without}
-use Rattle.tags.specs.Tags.{holding, emptyPlaces, isFree, freeAt, freeTag, isTag, heldAt, placed, rangeOf, bytesAsked, touches, marked, snoopedAt, snooped, staled, staledAt, allStaled, noteAt, noted}
+use Rattle.tags.specs.Itags.{bitIndex, isIn, withItag, without}
+use Rattle.tags.specs.Tags.{tagRow, allFree, isFreeState, isFreeRow, freeTag, isTag, tagState, setTag, translationRange, readRange, pendingOverlaps, invalidatedState, invalidatedRow, invalidatedTags, staleState, staleRow, allStale, delayedByRow, delayedItags}
 
 -- ---- ITags in vectors
 
 -- an ITag is in a union where it is in either,
 pub in-either : (v w : ℕ) (i : ITag) → isIn (bitOr v w) i ≡ (isIn v i || isIn w i)
 unfolding isIn
-in-either v w i = or-set v w (place i)
+in-either v w i = or-set v w (bitIndex i)
 
 -- in a difference where it is in the one and not in the other,
 pub in-without : (v w : ℕ) (i : ITag) → isIn (without v w) i ≡ (isIn v i && not (isIn w i))
 unfolding isIn without
-in-without v w i = without-set v w (place i)
+in-without v w i = without-set v w (bitIndex i)
 
 -- and in no empty vector
 pub in-none : (i : ITag) → isIn 0 i ≡ false
 unfolding isIn
-in-none i = none-set (place i)
+in-none i = none-set (bitIndex i)
 
 -- what joins a vector is in it beside what was
-pub in-joined : (v : ℕ) (i j : ITag) → isIn (joined v i) j ≡ (isIn v j || eqb (place i) (place j))
-unfolding joined isIn
-in-joined v i j = in-either v (2 ^ place i) j ∙ ap (λ (t : Bool). isIn v j || t) (power-set (place i) (place j))
+pub in-withItag : (v : ℕ) (i j : ITag) → isIn (withItag v i) j ≡ (isIn v j || eqb (bitIndex i) (bitIndex j))
+unfolding withItag isIn
+in-withItag v i j = in-either v (2 ^ bitIndex i) j ∙ ap (λ (t : Bool). isIn v j || t) (power-set (bitIndex i) (bitIndex j))
 
 -- the bit of an ITag stands for it,
-pub in-place : (v : ℕ) (i : ITag) → isIn v (record { 0 = place i }) ≡ isIn v i
+pub in-bitIndex : (v : ℕ) (i : ITag) → isIn v (record { 0 = bitIndex i }) ≡ isIn v i
 unfolding isIn
-in-place v i = let same : place (record { 0 = place i }) ≡ place i = omega arith in rw same
+in-bitIndex v i = let same : bitIndex (record { 0 = bitIndex i }) ≡ bitIndex i = omega arith in rw same
 
 -- and 32 bits hold what joins them, and what is left of them
-pub joined-lt : (v : ℕ) (i : ITag) → v < 4294967296 → joined v i < 4294967296
-unfolding joined
-joined-lt v i h = or-lt 32 v (2 ^ place i) h (pow-lt (let five : place i < 32 = omega arith in five))
+pub withItag-lt : (v : ℕ) (i : ITag) → v < 2 ^ 32 → withItag v i < 2 ^ 32
+unfolding withItag
+withItag-lt v i h = or-lt 32 v (2 ^ bitIndex i) h (pow-lt (let five : bitIndex i < 32 = omega arith in five))
 
 pub without-le : (v w : ℕ) → without v w ≤ v
 unfolding without
 without-le v w = omega arith
 
--- ---- what reads hold back
+-- ---- what reads delay
 
 -- place k of the tags, free past the last
-abbrev placeAt : List Place → ℕ → Place
-placeAt places k = getD places k (holding Free)
+abbrev rowAt : List TagRow → ℕ → TagRow
+rowAt tags k = getD tags k (tagRow Free)
 
-noted-by : (i : ITag) (places : List Place) (k : ℕ) → isIn (noteAt (placeAt places k)) i ≡ true → isIn (noted places) i ≡ true
-unfolding noted gather
-noted-by i [] k e = absurd (never-both _ e (in-none i))
-noted-by i (p ∷ places) zero e = rw (in-either (noteAt p) (gather bitOr noteAt places) i, e)
-noted-by i (p ∷ places) (suc k) e = rw (in-either (noteAt p) (gather bitOr noteAt places) i, noted-by i places k e) (or-true (isIn (noteAt p) i))
+delayed-by : (i : ITag) (tags : List TagRow) (k : ℕ) → isIn (delayedByRow (rowAt tags k)) i ≡ true → isIn (delayedItags tags) i ≡ true
+unfolding delayedItags foldMap
+delayed-by i [] k e = absurd (never-both _ e (in-none i))
+delayed-by i (p ∷ tags) zero e = rw (in-either (delayedByRow p) (foldMap bitOr delayedByRow tags) i, e)
+delayed-by i (p ∷ tags) (suc k) e = rw (in-either (delayedByRow p) (foldMap bitOr delayedByRow tags) i, delayed-by i tags k e) (or-true (isIn (delayedByRow p) i))
 
-noted-at : (i : ITag) (places : List Place) → isIn (noted places) i ≡ true → (k : ℕ) × (isIn (noteAt (placeAt places k)) i ≡ true)
-unfolding noted gather
-noted-at i [] e = absurd (never-both _ e (in-none i))
-noted-at i (p ∷ places) e =
-    byCases (isIn (noteAt p) i)
+delayed-at : (i : ITag) (tags : List TagRow) → isIn (delayedItags tags) i ≡ true → (k : ℕ) × (isIn (delayedByRow (rowAt tags k)) i ≡ true)
+unfolding delayedItags foldMap
+delayed-at i [] e = absurd (never-both _ e (in-none i))
+delayed-at i (p ∷ tags) e =
+    byCases (isIn (delayedByRow p) i)
     (λ t. (0, t))
-    (λ t. let rest = noted-at i places (rw (in-either (noteAt p) (gather bitOr noteAt places) i, t) at e) in (suc (rest .0), rest .1))
+    (λ t. let rest = delayed-at i tags (rw (in-either (delayedByRow p) (foldMap bitOr delayedByRow tags) i, t) at e) in (suc (rest .0), rest .1))
 
--- an open read that holds an ITag back
-pub record HeldBack (places : List Place) (i : ITag) : Type 0 where
+-- an open read that delays an ITag
+pub record Delaying (tags : List TagRow) (i : ITag) : Type 0 where
   pub tag : Tag
-  pub read : Fetch
-  pub held : heldAt places tag ≡ Read read
-  pub notes : isIn (read .itags) i ≡ true
+  pub read : PendingRead
+  pub state : tagState tags tag ≡ Read read
+  pub delays : isIn (read .itags) i ≡ true
 
-not-read : (r : Fetch) → Free ≡ Read r → ⊥
-not-read r e = let z : _≡_ {A = ℕ} 0 1 = cc in omega arith
+not-read : (r : PendingRead) → Free ≡ Read r → ⊥
+not-read r e = impossible cc
 
--- the noted ITags are those that some open read holds back
-pub noted-exactly : (places : List Place) (i : ITag) → length places ≡ 32 → (isIn (noted places) i ≡ true) ↔ HeldBack places i
-unfolding heldAt
-noted-exactly places i all = (λ e. let n = noted-at i places e in one (n .0) (n .1) (placeAt places (n .0) .held) refl, back)
+-- the delayed ITags are those that some open read delays
+pub delayed-exactly : (tags : List TagRow) (i : ITag) → length tags ≡ 32 → (isIn (delayedItags tags) i ≡ true) ↔ Delaying tags i
+unfolding tagState
+delayed-exactly tags i all = (λ e. let n = delayed-at i tags e in one (n .0) (n .1) (rowAt tags (n .0) .state) refl, back)
   where
-    one : (k : ℕ) → isIn (noteAt (placeAt places k)) i ≡ true → (o : Open) → placeAt places k .held ≡ o → HeldBack places i
+    one : (k : ℕ) → isIn (delayedByRow (rowAt tags k)) i ≡ true → (o : TagState) → rowAt tags k .state ≡ o → Delaying tags i
     one k e Free q = absurd (never-both _ (rw q at e) (in-none i))
-    one k e (Ask t) q = absurd (never-both _ (rw q at e) (in-none i))
+    one k e (Translate t) q = absurd (never-both _ (rw q at e) (in-none i))
     one k e (Read r) q =
         byCases (ltb k 32)
-        (λ u. record { tag = record { 0 = k }; read = r; held = rw u q; notes = rw q at e })
-        (λ u. let far : length places ≤ k = rw all (ltb-false k 32 u) in
-        absurd (never-both _ e (rw (List·getD-eq-default places (holding Free) far) (in-none i))))
+        (λ u. record { tag = record { 0 = k }; read = r; state = rw u q; delays = rw q at e })
+        (λ u. let far : length tags ≤ k = rw all (ltb-false k 32 u) in
+        absurd (never-both _ e (rw (List·getD-eq-default tags (tagRow Free) far) (in-none i))))
 
-    back : HeldBack places i → isIn (noted places) i ≡ true
+    back : Delaying tags i → isIn (delayedItags tags) i ≡ true
     back h =
         byCases (isTag (h .tag))
-        (λ u. let q : placeAt places (h .tag .0) .held ≡ Read (h .read) = rw u at (h .held) in noted-by i places (h .tag .0) (rw q (h .notes)))
-        (λ u. absurd (not-read (h .read) (rw u at (h .held))))
+        (λ u. let q : rowAt tags (h .tag .0) .state ≡ Read (h .read) = rw u at (h .state) in delayed-by i tags (h .tag .0) (rw q (h .delays)))
+        (λ u. absurd (not-read (h .read) (rw u at (h .state))))
 
 -- ---- a tag opened or freed
 
 -- no tag is open for anything at first,
-pub empty-held : (t : Tag) → heldAt emptyPlaces t ≡ Free
-unfolding heldAt
-empty-held t = byCases (isTag t) (λ u. rw (u, getD-replicate 32 (t .0) (holding Free) (holding Free) (ltb-true (t .0) 32 u))) (λ u. rw u)
+pub free-tagState : (t : Tag) → tagState allFree t ≡ Free
+unfolding tagState
+free-tagState t = byCases (isTag t) (λ u. rw (u, getD-replicate 32 (t .0) (tagRow Free) (tagRow Free) (ltb-true (t .0) 32 u))) (λ u. rw u)
 
 -- and what is open is one of the 32
-pub held-tag : (places : List Place) (t : Tag) → (heldAt places t ≡ Free → ⊥) → isTag t ≡ true
-unfolding heldAt
-held-tag places t used = byCases (isTag t) (λ u. u) (λ u. absurd (used (rw u refl)))
+pub tagState-tag : (tags : List TagRow) (t : Tag) → (tagState tags t ≡ Free → ⊥) → isTag t ≡ true
+unfolding tagState
+tagState-tag tags t used = byCases (isTag t) (λ u. u) (λ u. absurd (used (rw u refl)))
 
-module _ (places : List Place) (t : Tag) (o : Open) where
+module _ (tags : List TagRow) (t : Tag) (o : TagState) where
   -- the places stay as many
-  pub placed-long : length (placed places t o) ≡ length places
-  unfolding placed
-  placed-long = byCases (isTag t) (λ u. rw u (length-set places (t .0) (holding o))) (λ u. rw u)
+  pub setTag-long : length (setTag tags t o) ≡ length tags
+  unfolding setTag
+  setTag-long = byCases (isTag t) (λ u. rw u (length-set tags (t .0) (tagRow o))) (λ u. rw u)
 
   -- no other tag changes,
-  pub placed-other : (u : Tag) → (u .0 ≡ t .0 → ⊥) → heldAt (placed places t o) u ≡ heldAt places u
-  unfolding heldAt placed
-  placed-other u n = byCases (isTag t) (λ e. rw (e, getD-set-other places (t .0) (u .0) (holding o) (holding Free) n)) (λ e. rw e)
+  pub setTag-other : (u : Tag) → (u .0 ≡ t .0 → ⊥) → tagState (setTag tags t o) u ≡ tagState tags u
+  unfolding tagState setTag
+  setTag-other u n = byCases (isTag t) (λ e. rw (e, getD-set-other tags (t .0) (u .0) (tagRow o) (tagRow Free) n)) (λ e. rw e)
 
   -- and its own is open for just that
-  pub placed-own : length places ≡ 32 → isTag t ≡ true → heldAt (placed places t o) t ≡ o
-  unfolding heldAt placed
-  placed-own all e = rw (e, getD-set-same places (t .0) (holding o) (holding Free) (rw all (ltb-true (t .0) 32 e)))
+  pub setTag-own : length tags ≡ 32 → isTag t ≡ true → tagState (setTag tags t o) t ≡ o
+  unfolding tagState setTag
+  setTag-own all e = rw (e, getD-set-same tags (t .0) (tagRow o) (tagRow Free) (rw all (ltb-true (t .0) 32 e)))
 
--- a freed tag holds nothing back, and the others hold back what they did
-pub freed-exactly : (places : List Place) (t : Tag) (i : ITag) → length places ≡ 32 → HeldBack (placed places t Free) i ↔ ((h : HeldBack places i) × (h .tag .0 ≡ t .0 → ⊥))
-unfolding heldAt
-freed-exactly places t i all = (there, λ p. record { tag = p .0 .tag; read = p .0 .read; held = placed-other places t Free (p .0 .tag) (p .1) ∙ p .0 .held; notes = p .0 .notes })
+-- a freed tag delays nothing, and the others delay what they did
+pub freed-exactly : (tags : List TagRow) (t : Tag) (i : ITag) → length tags ≡ 32 → Delaying (setTag tags t Free) i ↔ ((h : Delaying tags i) × (h .tag .0 ≡ t .0 → ⊥))
+unfolding tagState
+freed-exactly tags t i all = (there, λ p. record { tag = p .0 .tag; read = p .0 .read; state = setTag-other tags t Free (p .0 .tag) (p .1) ∙ p .0 .state; delays = p .0 .delays })
   where
-    gone : (u : Tag) → u .0 ≡ t .0 → heldAt (placed places t Free) u ≡ Free
+    gone : (u : Tag) → u .0 ≡ t .0 → tagState (setTag tags t Free) u ≡ Free
     gone u e =
         let same : u ≡ t = ap (λ (k : ℕ). record { 0 = k }) e in
-        rw same (byCases (isTag t) (λ b. placed-own places t Free all b) (λ b. rw b))
+        rw same (byCases (isTag t) (λ b. setTag-own tags t Free all b) (λ b. rw b))
 
-    there : HeldBack (placed places t Free) i → (h : HeldBack places i) × (h .tag .0 ≡ t .0 → ⊥)
+    there : Delaying (setTag tags t Free) i → (h : Delaying tags i) × (h .tag .0 ≡ t .0 → ⊥)
     there h =
         byCases (eqb (h .tag .0) (t .0))
-        (λ b. absurd (not-read (h .read) (sym (gone (h .tag) (eqb-true (h .tag .0) (t .0) b)) ∙ h .held)))
+        (λ b. absurd (not-read (h .read) (sym (gone (h .tag) (eqb-true (h .tag .0) (t .0) b)) ∙ h .state)))
         (λ b. let n = eqb-false (h .tag .0) (t .0) b in
-        (record { tag = h .tag; read = h .read; held = sym (placed-other places t Free (h .tag) n) ∙ h .held; notes = h .notes }, n))
+        (record { tag = h .tag; read = h .read; state = sym (setTag-other tags t Free (h .tag) n) ∙ h .state; delays = h .delays }, n))
 
 -- ---- tags marked
 
 -- the places stay as many
-pub snooped-long : (places : List Place) (range : Range) (i : ITag) → length (snooped range i places) ≡ length places
-unfolding snooped
-snooped-long places range i = length-map places (snoopedAt range i)
+pub invalidated-long : (tags : List TagRow) (range : Range) (i : ITag) → length (invalidatedTags range i tags) ≡ length tags
+unfolding invalidatedTags
+invalidated-long tags range i = length-map tags (invalidatedRow range i)
 
-pub staled-long : (places : List Place) → length (allStaled places) ≡ length places
-unfolding allStaled
-staled-long places = length-map places staledAt
+pub allStale-long : (tags : List TagRow) → length (allStale tags) ≡ length tags
+unfolding allStale
+allStale-long tags = length-map tags staleRow
 
 -- ---- every tag changed alike
 
-module _ (g : Open → Open) (at : Place → Place) (same : (p : Place) → at p .held ≡ g (p .held)) (free : g Free ≡ Free) (places : List Place) where
-  pub held-map : (t : Tag) → heldAt (map at places) t ≡ g (heldAt places t)
-  unfolding heldAt
-  held-map t = byCases (isTag t)
-      (λ u. rw u (ap (λ (d : Place). getD (map at places) (t .0) d .held) (sym nothing) ∙ ap (λ (p : Place). p .held) (List·getD-map at places (t .0) (holding Free)) ∙ same (getD places (t .0) (holding Free))))
+module _ (g : TagState → TagState) (at : TagRow → TagRow) (same : (p : TagRow) → at p .state ≡ g (p .state)) (free : g Free ≡ Free) (tags : List TagRow) where
+  pub tagState-map : (t : Tag) → tagState (map at tags) t ≡ g (tagState tags t)
+  unfolding tagState
+  tagState-map t = byCases (isTag t)
+      (λ u. rw u (ap (λ (d : TagRow). getD (map at tags) (t .0) d .state) (sym nothing) ∙ ap (λ (p : TagRow). p .state) (List·getD-map at tags (t .0) (tagRow Free)) ∙ same (getD tags (t .0) (tagRow Free))))
       (λ u. rw u (sym free))
     where
-      nothing : at (holding Free) ≡ holding Free
-      nothing = ap (λ (o : Open). holding o) (same (holding Free) ∙ free)
+      nothing : at (tagRow Free) ≡ tagRow Free
+      nothing = ap (λ (o : TagState). tagRow o) (same (tagRow Free) ∙ free)
 
 -- E set: every Translation Request goes stale
-pub staled-held : (places : List Place) (t : Tag) → heldAt (allStaled places) t ≡ staled (heldAt places t)
-unfolding allStaled
-staled-held places t = held-map staled staledAt (λ p. one (p .held) p refl) refl places t
+pub tagState-allStale : (tags : List TagRow) (t : Tag) → tagState (allStale tags) t ≡ staleState (tagState tags t)
+unfolding allStale
+tagState-allStale tags t = tagState-map staleState staleRow (λ p. one (p .state) p refl) refl tags t
   where
-    one : (o : Open) (p : Place) → p .held ≡ o → staledAt p .held ≡ staled (p .held)
+    one : (o : TagState) (p : TagRow) → p .state ≡ o → staleRow p .state ≡ staleState (p .state)
     one Free p e = rw e
-    one (Ask q) p e = rw e
+    one (Translate q) p e = rw e
     one (Read r) p e = rw e
 
 -- the range of a Translation Request goes by its address and its number of units,
-pub range-run : (t : Tr) → rangeOf t ≡ runOf (t .address) (t .further) (t .stu)
-unfolding rangeOf
-range-run t = refl
+pub translationRange-units : (t : PendingTranslation) → translationRange t ≡ unitsFrom (t .address) (t .further) (t .stu)
+unfolding translationRange
+translationRange-units t = refl
 
 -- and an invalidation concerns it by that range, and a translated read by all its bytes
-pub touches-ask : (range : Range) (t : Tr) → touches range (Ask t) ≡ meetsOf (rangeOf t) range
-unfolding touches
-touches-ask range t = refl
+pub overlaps-translation : (range : Range) (t : PendingTranslation) → pendingOverlaps range (Translate t) ≡ overlaps (translationRange t) range
+unfolding pendingOverlaps
+overlaps-translation range t = refl
 
-pub touches-read : (range : Range) (f : Fetch) → touches range (Read f) ≡ (f .translated && meetsOf (reachOf (f .address) (f .bytes - 1)) range)
-unfolding touches bytesAsked
-touches-read range f = refl
+pub overlaps-read : (range : Range) (f : PendingRead) → pendingOverlaps range (Read f) ≡ (f .translated && overlaps (rangeFrom (f .address) (f .bytes - 1)) range)
+unfolding pendingOverlaps readRange
+overlaps-read range f = refl
 
 -- an invalidation marks what it concerns
 module _ (range : Range) (i : ITag) where
-  abbrev pub snoopOf : Open → Open
-  snoopOf o = cond (touches range o) (marked i o) o
+  abbrev pub invalidatedIf : TagState → TagState
+  invalidatedIf o = cond (pendingOverlaps range o) (invalidatedState i o) o
 
-  pub snooped-held : (places : List Place) (t : Tag) → heldAt (snooped range i places) t ≡ snoopOf (heldAt places t)
-  unfolding snooped touches
-  snooped-held places t = held-map snoopOf (snoopedAt range i) (λ p. one (touches range (p .held)) p) refl places t
+  pub tagState-invalidated : (tags : List TagRow) (t : Tag) → tagState (invalidatedTags range i tags) t ≡ invalidatedIf (tagState tags t)
+  unfolding invalidatedTags pendingOverlaps
+  tagState-invalidated tags t = tagState-map invalidatedIf (invalidatedRow range i) (λ p. one (pendingOverlaps range (p .state)) p) refl tags t
     where
-      one : (b : Bool) (p : Place) → cond b (holding (marked i (p .held))) p .held ≡ cond b (marked i (p .held)) (p .held)
+      one : (b : Bool) (p : TagRow) → cond b (tagRow (invalidatedState i (p .state))) p .state ≡ cond b (invalidatedState i (p .state)) (p .state)
       one true p = refl
       one false p = refl
 
 -- a tag that is stored is open for that, and no other changes
-pub held-placed : (places : List Place) (t : Tag) (o : Open) (u : Tag) → length places ≡ 32 → isTag t ≡ true → heldAt (placed places t o) u ≡ cond (eqb (u .0) (t .0)) o (heldAt places u)
-held-placed places t o u all own =
+pub tagState-setTag : (tags : List TagRow) (t : Tag) (o : TagState) (u : Tag) → length tags ≡ 32 → isTag t ≡ true → tagState (setTag tags t o) u ≡ cond (eqb (u .0) (t .0)) o (tagState tags u)
+tagState-setTag tags t o u all own =
     byCases (eqb (u .0) (t .0))
-    (λ e. let same : u ≡ t = ap (λ (k : ℕ). record { 0 = k }) (eqb-true (u .0) (t .0) e) in rw (e, same) (placed-own places t o all own))
-    (λ e. rw e (placed-other places t o u (eqb-false (u .0) (t .0) e)))
+    (λ e. let same : u ≡ t = ap (λ (k : ℕ). record { 0 = k }) (eqb-true (u .0) (t .0) e) in rw (e, same) (setTag-own tags t o all own))
+    (λ e. rw e (setTag-other tags t o u (eqb-false (u .0) (t .0) e)))
 
 -- the lowest free tag is a tag, and free
-pub free-tag : (places : List Place) (t : Tag) → length places ≡ 32 → freeTag places ≡ Lowest t → (isTag t ≡ true) × (heldAt places t ≡ Free)
-unfolding heldAt freeTag
-free-tag places t all e =
+pub free-tag : (tags : List TagRow) (t : Tag) → length tags ≡ 32 → freeTag tags ≡ Lowest t → (isTag t ≡ true) × (tagState tags t ≡ Free)
+unfolding tagState freeTag
+free-tag tags t all e =
     byCases (ltb first 32)
     (λ own. let h : Lowest (record { 0 = first }) ≡ Lowest t = rw own at e in
     let same : record { 0 = first } ≡ t = cc in
-    rw (← same) (own, rw own (is-free _ (first-holds freeAt places (holding Free) (omega (arith, all, ltb-true first 32 own))))))
-    (λ over. let h : NoneFree ≡ Lowest t = rw over at e in let z : _≡_ {A = ℕ} 0 1 = cc in absurd (omega arith))
+    rw (← same) (own, rw own (is-free _ (first-holds isFreeRow tags (tagRow Free) (omega (arith, all, ltb-true first 32 own))))))
+    (λ over. let h : NoneFree ≡ Lowest t = rw over at e in impossible cc)
   where
     first : ℕ
-    first = firstAt freeAt places
+    first = firstIndex isFreeRow tags
 
-    is-free : (o : Open) → isFree o ≡ true → o ≡ Free
+    is-free : (o : TagState) → isFreeState o ≡ true → o ≡ Free
     is-free Free e = refl
-    is-free (Ask q) e = no-tf (sym e)
+    is-free (Translate q) e = no-tf (sym e)
     is-free (Read r) e = no-tf (sym e)

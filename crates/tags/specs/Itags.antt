@@ -6,15 +6,15 @@ use lib.Bits.{bitAnd, bitOr}
 use Rattle.packet.specs.declared.ITag.{ITag}
 
 -- the bit of an ITag, which has five bits itself
-abbrev pub place : ITag → ℕ
-place itag = itag .0 % 32
+abbrev pub bitIndex : ITag → ℕ
+bitIndex itag = itag .0 % 32
 
 unfoldable pub isIn : ℕ → ITag → Bool
-isIn v itag = eqb (v / 2 ^ place itag % 2) 1
+isIn v itag = eqb (v / 2 ^ bitIndex itag % 2) 1
 
 -- v and the ITag
-unfoldable pub joined : ℕ → ITag → ℕ
-joined v itag = bitOr v (2 ^ place itag)
+unfoldable pub withItag : ℕ → ITag → ℕ
+withItag v itag = bitOr v (2 ^ bitIndex itag)
 
 -- those of v that are not among the others
 unfoldable pub without : ℕ → ℕ → ℕ

@@ -5,114 +5,114 @@ use Prim.Native.Nat.{ℕ, _-_}
 use lib.Dec.{ltb}
 use lib.Bits.{bitOr}
 use lib.ListN.{getD, set, replicate}
-use Rattle.lemmas.specs.First.{firstAt}
-use Rattle.lemmas.specs.Gather.{gather}
+use Rattle.lemmas.specs.First.{firstIndex}
+use Rattle.lemmas.specs.Fold.{foldMap}
 use Rattle.packet.specs.declared.Tag.{Tag}
 use Rattle.packet.specs.declared.ITag.{ITag}
-use Rattle.span.specs.declared.Range.{Range}
-use Rattle.span.specs.Range.{runOf, reachOf, meetsOf}
-use Rattle.tags.specs.declared.Tr.{Tr}
-use Rattle.tags.specs.declared.Fetch.{Fetch}
-use Rattle.tags.specs.declared.Open.{Open}
-use Rattle.tags.specs.declared.Open.the-variants.{Free, Ask, Read}
-use Rattle.tags.specs.declared.Place.{Place}
+use Rattle.ranges.specs.declared.Range.{Range}
+use Rattle.ranges.specs.Range.{unitsFrom, rangeFrom, overlaps}
+use Rattle.tags.specs.declared.PendingTranslation.{PendingTranslation}
+use Rattle.tags.specs.declared.PendingRead.{PendingRead}
+use Rattle.tags.specs.declared.TagState.{TagState}
+use Rattle.tags.specs.declared.TagState.the-variants.{Free, Translate, Read}
+use Rattle.tags.specs.declared.TagRow.{TagRow}
 use Rattle.tags.specs.declared.FreeTag.{FreeTag}
 use Rattle.tags.specs.declared.FreeTag.the-variants.{Lowest, NoneFree}
-use Rattle.tags.specs.Itags.{joined}
+use Rattle.tags.specs.Itags.{withItag}
 
-abbrev pub holding : Open → Place
-holding o = record { held = o }
+abbrev pub tagRow : TagState → TagRow
+tagRow o = record { state = o }
 
-abbrev pub emptyPlaces : List Place
-emptyPlaces = replicate 32 (holding Free)
+abbrev pub allFree : List TagRow
+allFree = replicate 32 (tagRow Free)
 
 -- a Translation Request as it is sent
-abbrev pub asked : ℕ → ℕ → ℕ → Open
-asked address further stu = Ask (record { address = address; further = further; stu = stu; stale = false; size = 0; whole = 0; due = 0 })
+abbrev pub newTranslation : ℕ → ℕ → ℕ → TagState
+newTranslation address further stu = Translate (record { address = address; further = further; stu = stu; stale = false; size = 0; whole = 0; due = 0 })
 
 -- a read as it is sent
-abbrev pub fetching : ℕ → ℕ → Bool → Open
-fetching address bytes translated = Read (record { address = address; bytes = bytes; due = bytes; translated = translated; itags = 0 })
+abbrev pub newRead : ℕ → ℕ → Bool → TagState
+newRead address bytes translated = Read (record { address = address; bytes = bytes; due = bytes; translated = translated; itags = 0 })
 
-abbrev pub isFree : Open → Bool
-isFree Free = true
-isFree (Ask t) = false
-isFree (Read f) = false
+abbrev pub isFreeState : TagState → Bool
+isFreeState Free = true
+isFreeState (Translate t) = false
+isFreeState (Read f) = false
 
-abbrev pub freeAt : Place → Bool
-freeAt p = isFree (p .held)
+abbrev pub isFreeRow : TagRow → Bool
+isFreeRow p = isFreeState (p .state)
 
 abbrev pub isTag : Tag → Bool
 isTag t = ltb (t .0) 32
 
 -- the lowest free tag, where not all are open
-unfoldable pub freeTag : List Place → FreeTag
-freeTag places = cond (ltb (firstAt freeAt places) 32) (Lowest (record { 0 = firstAt freeAt places })) NoneFree
+unfoldable pub freeTag : List TagRow → FreeTag
+freeTag tags = cond (ltb (firstIndex isFreeRow tags) 32) (Lowest (record { 0 = firstIndex isFreeRow tags })) NoneFree
 
 -- what a tag is open for
-unfoldable pub heldAt : List Place → Tag → Open
-heldAt places t = cond (isTag t) (getD places (t .0) (holding Free) .held) Free
+unfoldable pub tagState : List TagRow → Tag → TagState
+tagState tags t = cond (isTag t) (getD tags (t .0) (tagRow Free) .state) Free
 
-unfoldable pub placed : List Place → Tag → Open → List Place
-placed places t o = cond (isTag t) (set places (t .0) (holding o)) places
+unfoldable pub setTag : List TagRow → Tag → TagState → List TagRow
+setTag tags t o = cond (isTag t) (set tags (t .0) (tagRow o)) tags
 
 -- the units that a Translation Request is for
-unfoldable pub rangeOf : Tr → Range
-rangeOf t = runOf (t .address) (t .further) (t .stu)
+unfoldable pub translationRange : PendingTranslation → Range
+translationRange t = unitsFrom (t .address) (t .further) (t .stu)
 
 -- the bytes of a read, by the address asked, however many have come
-unfoldable pub bytesAsked : Fetch → Range
-bytesAsked f = reachOf (f .address) (f .bytes - 1)
+unfoldable pub readRange : PendingRead → Range
+readRange f = rangeFrom (f .address) (f .bytes - 1)
 
 -- does an invalidation of a range concern it? Translation Requests by their whole range; reads only if sent with a translated address
-unfoldable pub touches : Range → Open → Bool
-touches range Free = false
-touches range (Ask t) = meetsOf (rangeOf t) range
-touches range (Read f) = f .translated && meetsOf (bytesAsked f) range
+unfoldable pub pendingOverlaps : Range → TagState → Bool
+pendingOverlaps range Free = false
+pendingOverlaps range (Translate t) = overlaps (translationRange t) range
+pendingOverlaps range (Read f) = f .translated && overlaps (readRange f) range
 
-abbrev pub stale : Tr → Tr
-stale t = record { address = t .address; further = t .further; stu = t .stu; stale = true; size = t .size; whole = t .whole; due = t .due }
+abbrev pub staleTranslation : PendingTranslation → PendingTranslation
+staleTranslation t = record { address = t .address; further = t .further; stu = t .stu; stale = true; size = t .size; whole = t .whole; due = t .due }
 
-abbrev pub awaited : ITag → Fetch → Fetch
-awaited itag f = record { address = f .address; bytes = f .bytes; due = f .due; translated = f .translated; itags = joined (f .itags) itag }
+abbrev pub delaying : ITag → PendingRead → PendingRead
+delaying itag f = record { address = f .address; bytes = f .bytes; due = f .due; translated = f .translated; itags = withItag (f .itags) itag }
 
--- a Translation Request is marked stale, a read is noted as waited for
-abbrev pub marked : ITag → Open → Open
-marked itag Free = Free
-marked itag (Ask t) = Ask (stale t)
-marked itag (Read f) = Read (awaited itag f)
+-- a Translation Request is marked stale, a read delays the ITag
+abbrev pub invalidatedState : ITag → TagState → TagState
+invalidatedState itag Free = Free
+invalidatedState itag (Translate t) = Translate (staleTranslation t)
+invalidatedState itag (Read f) = Read (delaying itag f)
 
-abbrev pub snoopedAt : Range → ITag → Place → Place
-snoopedAt range itag p = cond (touches range (p .held)) (holding (marked itag (p .held))) p
+abbrev pub invalidatedRow : Range → ITag → TagRow → TagRow
+invalidatedRow range itag p = cond (pendingOverlaps range (p .state)) (tagRow (invalidatedState itag (p .state))) p
 
-unfoldable pub snooped : Range → ITag → List Place → List Place
-snooped range itag places = map (snoopedAt range itag) places
+unfoldable pub invalidatedTags : Range → ITag → List TagRow → List TagRow
+invalidatedTags range itag tags = map (invalidatedRow range itag) tags
 
-abbrev pub isAsk : Open → Bool
-isAsk Free = false
-isAsk (Ask t) = true
-isAsk (Read f) = false
+abbrev pub isTranslation : TagState → Bool
+isTranslation Free = false
+isTranslation (Translate t) = true
+isTranslation (Read f) = false
 
-abbrev pub staled : Open → Open
-staled Free = Free
-staled (Ask t) = Ask (stale t)
-staled (Read f) = Read f
+abbrev pub staleState : TagState → TagState
+staleState Free = Free
+staleState (Translate t) = Translate (staleTranslation t)
+staleState (Read f) = Read f
 
-abbrev pub staledAt : Place → Place
-staledAt p = cond (isAsk (p .held)) (holding (staled (p .held))) p
+abbrev pub staleRow : TagRow → TagRow
+staleRow p = cond (isTranslation (p .state)) (tagRow (staleState (p .state))) p
 
 -- all open Translation Requests are marked stale
-unfoldable pub allStaled : List Place → List Place
-allStaled places = map staledAt places
+unfoldable pub allStale : List TagRow → List TagRow
+allStale tags = map staleRow tags
 
-abbrev pub noteOf : Open → ℕ
-noteOf Free = 0
-noteOf (Ask t) = 0
-noteOf (Read f) = f .itags
+abbrev pub delayedBy : TagState → ℕ
+delayedBy Free = 0
+delayedBy (Translate t) = 0
+delayedBy (Read f) = f .itags
 
-abbrev pub noteAt : Place → ℕ
-noteAt p = noteOf (p .held)
+abbrev pub delayedByRow : TagRow → ℕ
+delayedByRow p = delayedBy (p .state)
 
--- the ITags that some open read holds back
-unfoldable pub noted : List Place → ℕ
-noted places = gather bitOr noteAt places
+-- the ITags that some open read delays
+unfoldable pub delayedItags : List TagRow → ℕ
+delayedItags tags = foldMap bitOr delayedByRow tags

@@ -1,7 +1,7 @@
 // Sets of ITags as vectors, ITag 0 in the lowest bit. An ITag has five bits.
 use packet::ITag;
 ghost use mathlib.Core.Path.{_≡_};
-ghost use Rattle.tags.specs.Itags.{isIn, joined, without};
+ghost use Rattle.tags.specs.Itags.{isIn, withItag, without};
 
 pub fn has(v: u32, itag: ITag) -> bool
     ensures { λ r. ⌜ r ≡ isIn v itag ⌝ }
@@ -10,7 +10,7 @@ pub fn has(v: u32, itag: ITag) -> bool
 }
 
 pub fn with(v: u32, itag: ITag) -> u32
-    ensures { λ r. ⌜ r ≡ joined v itag ⌝ }
+    ensures { λ r. ⌜ r ≡ withItag v itag ⌝ }
 {
     v | 1u32 << (itag.0 % 32)
 }

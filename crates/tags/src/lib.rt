@@ -3,20 +3,20 @@ pub mod itags;
 
 use packet::ITag;
 use packet::Tag;
-use span::Range;
+use ranges::Range;
 ghost use mathlib.Core.Path.{_≡_};
 ghost use mathlib.Core.List.{map};
 ghost use Prim.Native.Nat.{_-_};
 ghost use lib.ListN.{length};
-ghost use Rattle.lemmas.specs.First.{firstAt};
-ghost use Rattle.tags.specs.declared.Open.the-variants.{Ask, Read};
-ghost use Rattle.tags.specs.Tags.{asked, fetching, emptyPlaces, isFree, freeTag, heldAt, placed, rangeOf, bytesAsked, touches, marked, snooped, isAsk, staled, allStaled, noteOf, noted};
+ghost use Rattle.lemmas.specs.First.{firstIndex};
+ghost use Rattle.tags.specs.declared.TagState.the-variants.{Translate, Read};
+ghost use Rattle.tags.specs.Tags.{newTranslation, newRead, allFree, isFreeState, freeTag, tagState, setTag, translationRange, readRange, pendingOverlaps, invalidatedState, invalidatedTags, isTranslation, staleState, allStale, delayedBy, delayedItags};
 
 // An open Translation Request: the address asked for, how many units beyond the first, the STU that
-// says how large they are, and whether an invalidation has met it. After a first packet of two also the
+// says how large they are, and whether an invalidation overlapped it. After a first packet of two also the
 // size of its translations as an exponent, the Byte Count of both packets and what the second has to
 // bring; else 0.
-pub struct Tr {
+pub struct PendingTranslation {
     pub address: u64,
     pub further: u8,
     pub stu: u8,
@@ -28,7 +28,7 @@ pub struct Tr {
 
 // An open read: the address asked for, its bytes and how many are still due, whether it was sent
 // with a translated address, and the ITags that wait for it.
-pub struct Fetch {
+pub struct PendingRead {
     pub address: u64,
     pub bytes: u16,
     pub due: u16,
@@ -36,14 +36,14 @@ pub struct Fetch {
     pub itags: u32,
 }
 
-pub enum Open {
+pub enum TagState {
     Free,
-    Ask(Tr),
-    Read(Fetch),
+    Translate(PendingTranslation),
+    Read(PendingRead),
 }
 
-pub struct Place {
-    pub held: Open,
+pub struct TagRow {
+    pub state: TagState,
 }
 
 // The lowest free tag, where one is free.
@@ -52,18 +52,20 @@ pub enum FreeTag {
     NoneFree,
 }
 
-pub fn all_free() -> [Place; 32]
-    ensures { λ r. ⌜ r ≡ emptyPlaces ⌝ }
+pub fn all_free() -> [TagRow; 32]
+    ensures { λ r. ⌜ r ≡ allFree ⌝ }
 {
-    let free = Place { held: Open::Free };
+    let free = TagRow {
+        state: TagState::Free,
+    };
     [free; 32]
 }
 
 // A Translation Request for the unit that holds an address and the further ones.
-pub fn asking(address: u64, further: u8, stu: u8) -> Open
-    ensures { λ r. ⌜ r ≡ asked address further stu ⌝ }
+pub fn new_translation(address: u64, further: u8, stu: u8) -> TagState
+    ensures { λ r. ⌜ r ≡ newTranslation address further stu ⌝ }
 {
-    Open::Ask(Tr {
+    TagState::Translate(PendingTranslation {
         address,
         further,
         stu,
@@ -75,10 +77,10 @@ pub fn asking(address: u64, further: u8, stu: u8) -> Open
 }
 
 // A read, of which nothing has come.
-pub fn reading(address: u64, bytes: u16, translated: bool) -> Open
-    ensures { λ r. ⌜ r ≡ fetching address bytes translated ⌝ }
+pub fn new_read(address: u64, bytes: u16, translated: bool) -> TagState
+    ensures { λ r. ⌜ r ≡ newRead address bytes translated ⌝ }
 {
-    Open::Read(Fetch {
+    TagState::Read(PendingRead {
         address,
         bytes,
         due: bytes,
@@ -87,24 +89,24 @@ pub fn reading(address: u64, bytes: u16, translated: bool) -> Open
     })
 }
 
-fn is_free(o: Open) -> bool
-    ensures { λ r. ⌜ r ≡ isFree o ⌝ }
+fn is_free_state(o: TagState) -> bool
+    ensures { λ r. ⌜ r ≡ isFreeState o ⌝ }
 {
     match o {
-        Open::Free => true,
-        Open::Ask(_) => false,
-        Open::Read(_) => false,
+        TagState::Free => true,
+        TagState::Translate(_) => false,
+        TagState::Read(_) => false,
     }
 }
 
-pub fn lowest_free(places: [Place; 32]) -> FreeTag
-    ensures { λ r. ⌜ r ≡ freeTag places ⌝ }
+pub fn lowest_free(tags: [TagRow; 32]) -> FreeTag
+    ensures { λ r. ⌜ r ≡ freeTag tags ⌝ }
 {
     let mut i: usize = 0;
     while i < 32 {
-        let p = places[i];
-        let o = p.held;
-        if is_free(o) {
+        let p = tags[i];
+        let o = p.state;
+        if is_free_state(o) {
             return FreeTag::Lowest(Tag(i as u8));
         }
         i += 1;
@@ -113,26 +115,26 @@ pub fn lowest_free(places: [Place; 32]) -> FreeTag
 }
 
 // What a tag is open for; one above 31 is never open.
-pub fn held(places: [Place; 32], t: Tag) -> Open
-    ensures { λ r. ⌜ r ≡ heldAt places t ⌝ }
+pub fn tag_state(tags: [TagRow; 32], t: Tag) -> TagState
+    ensures { λ r. ⌜ r ≡ tagState tags t ⌝ }
 {
     let i = t.0 as usize;
     if i < 32 {
-        let p = places[i];
-        p.held
+        let p = tags[i];
+        p.state
     } else {
-        Open::Free
+        TagState::Free
     }
 }
 
-pub fn hold(mut places: [Place; 32], t: Tag, o: Open) -> [Place; 32]
-    ensures { λ r. ⌜ r ≡ placed places t o ⌝ }
+pub fn set_tag(mut tags: [TagRow; 32], t: Tag, o: TagState) -> [TagRow; 32]
+    ensures { λ r. ⌜ r ≡ setTag tags t o ⌝ }
 {
     let i = t.0 as usize;
     if i < 32 {
-        places[i] = Place { held: o };
+        tags[i] = TagRow { state: o };
     }
-    places
+    tags
 }
 
 fn one_less(n: u16) -> u16
@@ -142,29 +144,29 @@ fn one_less(n: u16) -> u16
 }
 
 // The bytes that a read asks for.
-fn bytes_asked(f: Fetch) -> Range
-    ensures { λ r. ⌜ r ≡ bytesAsked f ⌝ }
+fn read_range(f: PendingRead) -> Range
+    ensures { λ r. ⌜ r ≡ readRange f ⌝ }
 {
-    span::reach(f.address, one_less(f.bytes) as u64)
+    ranges::range_from(f.address, one_less(f.bytes) as u64)
 }
 
 // The units that a Translation Request is for.
-pub fn range_of(t: Tr) -> Range
-    ensures { λ r. ⌜ r ≡ rangeOf t ⌝ }
+pub fn translation_range(t: PendingTranslation) -> Range
+    ensures { λ r. ⌜ r ≡ translationRange t ⌝ }
 {
-    span::run(t.address, t.further, t.stu)
+    ranges::units_from(t.address, t.further, t.stu)
 }
 
 // Does an invalidation of a range concern what a tag is open for?
-fn is_met(o: Open, range: Range) -> bool
-    ensures { λ r. ⌜ r ≡ touches range o ⌝ }
+fn pending_overlaps(o: TagState, range: Range) -> bool
+    ensures { λ r. ⌜ r ≡ pendingOverlaps range o ⌝ }
 {
     match o {
-        Open::Free => false,
-        Open::Ask(t) => span::meets(range_of(t), range),
-        Open::Read(f) => {
+        TagState::Free => false,
+        TagState::Translate(t) => ranges::overlaps(translation_range(t), range),
+        TagState::Read(f) => {
             if f.translated {
-                span::meets(bytes_asked(f), range)
+                ranges::overlaps(read_range(f), range)
             } else {
                 false
             }
@@ -172,105 +174,105 @@ fn is_met(o: Open, range: Range) -> bool
     }
 }
 
-fn stale(mut t: Tr) -> Open
-    ensures { λ r. ⌜ r ≡ staled (Ask t) ⌝ }
+fn stale_translation(mut t: PendingTranslation) -> TagState
+    ensures { λ r. ⌜ r ≡ staleState (Translate t) ⌝ }
 {
     t.stale = true;
-    Open::Ask(t)
+    TagState::Translate(t)
 }
 
-fn awaited(mut f: Fetch, itag: ITag) -> Open
-    ensures { λ r. ⌜ r ≡ marked itag (Read f) ⌝ }
+fn delaying(mut f: PendingRead, itag: ITag) -> TagState
+    ensures { λ r. ⌜ r ≡ invalidatedState itag (Read f) ⌝ }
 {
     f.itags = itags::with(f.itags, itag);
-    Open::Read(f)
+    TagState::Read(f)
 }
 
-// A Translation Request becomes stale, a read is noted as waited for.
-fn mark(o: Open, itag: ITag) -> Open
-    ensures { λ r. ⌜ r ≡ marked itag o ⌝ }
+// A Translation Request becomes stale, a read delays the ITag.
+fn invalidate_state(o: TagState, itag: ITag) -> TagState
+    ensures { λ r. ⌜ r ≡ invalidatedState itag o ⌝ }
 {
     match o {
-        Open::Free => o,
-        Open::Ask(t) => stale(t),
-        Open::Read(f) => awaited(f, itag),
+        TagState::Free => o,
+        TagState::Translate(t) => stale_translation(t),
+        TagState::Read(f) => delaying(f, itag),
     }
 }
 
-// Every Translation Request and translated read that meets the range of an invalidation.
-pub fn snoop(mut places: [Place; 32], range: Range, itag: ITag) -> [Place; 32]
-    ensures { λ r. ⌜ r ≡ snooped range itag places ⌝ }
+// Every Translation Request and translated read that overlaps the range of an invalidation.
+pub fn invalidate(mut tags: [TagRow; 32], range: Range, itag: ITag) -> [TagRow; 32]
+    ensures { λ r. ⌜ r ≡ invalidatedTags range itag tags ⌝ }
 {
     let mut i: usize = 0;
     while i < 32 {
-        let p = places[i];
-        let o = p.held;
-        if is_met(o, range) {
-            let marked = mark(o, itag);
-            places[i] = Place { held: marked };
+        let p = tags[i];
+        let o = p.state;
+        if pending_overlaps(o, range) {
+            let marked = invalidate_state(o, itag);
+            tags[i] = TagRow { state: marked };
         }
         i += 1;
     }
-    places
+    tags
 }
 
-fn is_ask(o: Open) -> bool
-    ensures { λ r. ⌜ r ≡ isAsk o ⌝ }
+fn is_translation(o: TagState) -> bool
+    ensures { λ r. ⌜ r ≡ isTranslation o ⌝ }
 {
     match o {
-        Open::Free => false,
-        Open::Ask(_) => true,
-        Open::Read(_) => false,
+        TagState::Free => false,
+        TagState::Translate(_) => true,
+        TagState::Read(_) => false,
     }
 }
 
-fn out_of_date(o: Open) -> Open
-    ensures { λ r. ⌜ r ≡ staled o ⌝ }
+fn stale_state(o: TagState) -> TagState
+    ensures { λ r. ⌜ r ≡ staleState o ⌝ }
 {
     match o {
-        Open::Free => o,
-        Open::Ask(t) => stale(t),
-        Open::Read(_) => o,
+        TagState::Free => o,
+        TagState::Translate(t) => stale_translation(t),
+        TagState::Read(_) => o,
     }
 }
 
-pub fn stale_all(mut places: [Place; 32]) -> [Place; 32]
-    ensures { λ r. ⌜ r ≡ allStaled places ⌝ }
+pub fn all_stale(mut tags: [TagRow; 32]) -> [TagRow; 32]
+    ensures { λ r. ⌜ r ≡ allStale tags ⌝ }
 {
     let mut i: usize = 0;
     while i < 32 {
-        let p = places[i];
-        let o = p.held;
-        if is_ask(o) {
-            let old = out_of_date(o);
-            places[i] = Place { held: old };
+        let p = tags[i];
+        let o = p.state;
+        if is_translation(o) {
+            let old = stale_state(o);
+            tags[i] = TagRow { state: old };
         }
         i += 1;
     }
-    places
+    tags
 }
 
-fn note_of(o: Open) -> u32
-    ensures { λ r. ⌜ r ≡ noteOf o ⌝ }
+fn delayed_by(o: TagState) -> u32
+    ensures { λ r. ⌜ r ≡ delayedBy o ⌝ }
 {
     match o {
-        Open::Free => 0,
-        Open::Ask(_) => 0,
-        Open::Read(f) => f.itags,
+        TagState::Free => 0,
+        TagState::Translate(_) => 0,
+        TagState::Read(f) => f.itags,
     }
 }
 
-// The ITags that some open read holds back.
-pub fn held_back(places: [Place; 32]) -> u32
-    ensures { λ r. ⌜ r ≡ noted places ⌝ }
+// The ITags that some open read delays.
+pub fn delayed_itags(tags: [TagRow; 32]) -> u32
+    ensures { λ r. ⌜ r ≡ delayedItags tags ⌝ }
 {
     let mut v: u32 = 0;
     let mut i: usize = 32;
     while 0 < i {
         i -= 1;
-        let p = places[i];
-        let o = p.held;
-        v = note_of(o) | v;
+        let p = tags[i];
+        let o = p.state;
+        v = delayed_by(o) | v;
     }
     v
 }

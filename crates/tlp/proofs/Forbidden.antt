@@ -15,12 +15,12 @@ use Rattle.packet.specs.declared.Form.{Form}
 use Rattle.packet.specs.declared.Form.the-variants.{Mrd32, Mrd64, Mwr32, Mwr64, CplNoData, CplData, InvReq, InvCpl, PageReq, PrgResp}
 use Rattle.packet.specs.declared.Frame.{Frame}
 use Rattle.packet.specs.declared.Packet.{Packet}
-use Rattle.packet.specs.Numbers.{Said, gives, refuse, demand}
-use Rattle.packet.specs.Frames.{frameOf}
-use Rattle.packet.specs.Forms.{choose, firstOf, lengthOf, enablesOf, fixedOf}
-use Rattle.packet.specs.Kinds.{bodyIn, packetIn, shaped, shortEnough, allowedBody, allowed, within, loadOf, formOf, framed}
+use Rattle.packet.specs.Numbers.{Result, ok, refuse, check}
+use Rattle.packet.specs.Frames.{decodeFrame}
+use Rattle.packet.specs.Forms.{choose, byte0Of, packetLength, byteEnables, payloadOffset}
+use Rattle.packet.specs.Kinds.{bodyIn, packetIn, wellFormed, shortEnough, allowedBody, allowed, fieldsInRange, payloadLength, formOf, packetFrame}
 use Rattle.packet.specs.Reading.{readForm, readChoice, reading}
-use Rattle.packet.specs.Writing.{writing, fitting}
+use Rattle.packet.specs.Writing.{writing, checkRoom}
 use Rattle.tlp.specs.Fields.{Typed}
 use Rattle.tlp.proofs.Fields.{fields}
 use Rattle.tlp.proofs.Refit.{Seven, chosen-by}
@@ -84,50 +84,50 @@ at-says false s = refl
 
 module _ (f : Frame) (h : f .at < 4) where
   abbrev Says : Form → Type 0
-  Says m = (shaped m f && allowed (packetIn m f)) ≡ not (forbidden f)
+  Says m = (wellFormed m f && allowed (packetIn m f)) ≡ not (forbidden f)
 
   fetch-32 : f .byte0 ≡ 0x00 → Says Mrd32
-  unfolding shaped bodyIn allowedBody
+  unfolding wellFormed bodyIn allowedBody
   fetch-32 b =
-      rw (b, odd-is (f .words), above-is (f .words))
+      rw (b, odd-is (f .dwords), above-is (f .dwords))
       (by-at (f .at) h
-      (λ a. rw a (mem-says (eqb (f .byte7) (enablesOf (f .words))) (shortEnough (f .words))))
-      (λ a. rw a (tr-says (eqb (f .byte7) 0xFF) (eqb (f .words % 2) 0) (shortEnough (f .words))))
-      (λ a. rw a (mem-says (eqb (f .byte7) (enablesOf (f .words))) (shortEnough (f .words))))
+      (λ a. rw a (mem-says (eqb (f .byte7) (byteEnables (f .dwords))) (shortEnough (f .dwords))))
+      (λ a. rw a (tr-says (eqb (f .byte7) 0xFF) (eqb (f .dwords % 2) 0) (shortEnough (f .dwords))))
+      (λ a. rw a (mem-says (eqb (f .byte7) (byteEnables (f .dwords))) (shortEnough (f .dwords))))
       (λ a. rw a refl))
 
   fetch-64 : f .byte0 ≡ 0x20 → Says Mrd64
-  unfolding shaped bodyIn allowedBody
+  unfolding wellFormed bodyIn allowedBody
   fetch-64 b =
-      rw (b, odd-is (f .words), above-is (f .words), zero-is (f .dword8))
+      rw (b, odd-is (f .dwords), above-is (f .dwords), zero-is (f .dword8))
       (by-at (f .at) h
-      (λ a. rw a (mem-long-says (ltb 0 (f .dword8)) (eqb (f .byte7) (enablesOf (f .words))) (shortEnough (f .words))))
-      (λ a. rw a (tr-long-says (ltb 0 (f .dword8)) (eqb (f .byte7) 0xFF) (eqb (f .words % 2) 0) (shortEnough (f .words))))
-      (λ a. rw a (mem-long-says (ltb 0 (f .dword8)) (eqb (f .byte7) (enablesOf (f .words))) (shortEnough (f .words))))
-      (λ a. rw a (at-says (ltb 0 (f .dword8)) (shortEnough (f .words)))))
+      (λ a. rw a (mem-long-says (ltb 0 (f .dword8)) (eqb (f .byte7) (byteEnables (f .dwords))) (shortEnough (f .dwords))))
+      (λ a. rw a (tr-long-says (ltb 0 (f .dword8)) (eqb (f .byte7) 0xFF) (eqb (f .dwords % 2) 0) (shortEnough (f .dwords))))
+      (λ a. rw a (mem-long-says (ltb 0 (f .dword8)) (eqb (f .byte7) (byteEnables (f .dwords))) (shortEnough (f .dwords))))
+      (λ a. rw a (at-says (ltb 0 (f .dword8)) (shortEnough (f .dwords)))))
 
   store-32 : f .byte0 ≡ 0x40 → Says Mwr32
-  unfolding shaped bodyIn allowedBody
+  unfolding wellFormed bodyIn allowedBody
   store-32 b =
-      rw (b, above-is (f .words))
+      rw (b, above-is (f .dwords))
       (by-at (f .at) h
-      (λ a. rw a (mem-says (eqb (f .byte7) (enablesOf (f .words))) (shortEnough (f .words))))
+      (λ a. rw a (mem-says (eqb (f .byte7) (byteEnables (f .dwords))) (shortEnough (f .dwords))))
       (λ a. rw a refl)
-      (λ a. rw a (mem-says (eqb (f .byte7) (enablesOf (f .words))) (shortEnough (f .words))))
+      (λ a. rw a (mem-says (eqb (f .byte7) (byteEnables (f .dwords))) (shortEnough (f .dwords))))
       (λ a. rw a refl))
 
   store-64 : f .byte0 ≡ 0x60 → Says Mwr64
-  unfolding shaped bodyIn allowedBody
+  unfolding wellFormed bodyIn allowedBody
   store-64 b =
-      rw (b, above-is (f .words), zero-is (f .dword8))
+      rw (b, above-is (f .dwords), zero-is (f .dword8))
       (by-at (f .at) h
-      (λ a. rw a (mem-long-says (ltb 0 (f .dword8)) (eqb (f .byte7) (enablesOf (f .words))) (shortEnough (f .words))))
-      (λ a. rw a (at-says (ltb 0 (f .dword8)) (shortEnough (f .words))))
-      (λ a. rw a (mem-long-says (ltb 0 (f .dword8)) (eqb (f .byte7) (enablesOf (f .words))) (shortEnough (f .words))))
-      (λ a. rw a (at-says (ltb 0 (f .dword8)) (shortEnough (f .words)))))
+      (λ a. rw a (mem-long-says (ltb 0 (f .dword8)) (eqb (f .byte7) (byteEnables (f .dwords))) (shortEnough (f .dwords))))
+      (λ a. rw a (at-says (ltb 0 (f .dword8)) (shortEnough (f .dwords))))
+      (λ a. rw a (mem-long-says (ltb 0 (f .dword8)) (eqb (f .byte7) (byteEnables (f .dwords))) (shortEnough (f .dwords))))
+      (λ a. rw a (at-says (ltb 0 (f .dword8)) (shortEnough (f .dwords)))))
 
   no-data : f .byte0 ≡ 0x0A → Says CplNoData
-  unfolding shaped bodyIn allowedBody
+  unfolding wellFormed bodyIn allowedBody
   no-data b = rw b (last (eqb (statusIn f) 2))
     where
       last : (t : Bool) → not t ≡ not (t || false)
@@ -135,8 +135,8 @@ module _ (f : Frame) (h : f .at < 4) where
       last false = refl
 
   with-data : f .byte0 ≡ 0x4A → Says CplData
-  unfolding shaped bodyIn allowedBody
-  with-data b = rw (b, above-is (f .words)) (byCases (eqb (statusIn f) 0) (λ e. rw (e, eqb-true (statusIn f) 0 e) (fine (shortEnough (f .words)))) (λ e. rw e (faulty (shortEnough (f .words)) (eqb (statusIn f) 2))))
+  unfolding wellFormed bodyIn allowedBody
+  with-data b = rw (b, above-is (f .dwords)) (byCases (eqb (statusIn f) 0) (λ e. rw (e, eqb-true (statusIn f) 0 e) (fine (shortEnough (f .dwords)))) (λ e. rw e (faulty (shortEnough (f .dwords)) (eqb (statusIn f) 2))))
     where
       fine : (s : Bool) → s ≡ not (not s || false)
       fine true = refl
@@ -148,10 +148,10 @@ module _ (f : Frame) (h : f .at < 4) where
       faulty false t = refl
 
   invalidates : f .byte0 ≡ 0x72 → Says InvReq
-  unfolding shaped bodyIn allowedBody
+  unfolding wellFormed bodyIn allowedBody
   invalidates b =
       let same : f .body / 4096 * 4096 / 4096 ≡ f .body / 4096 = omega arith in
-      rw (b, same) (sized (eqb (f .words) 2) (eqb (f .body / 2048 % 2) 1) (eqb (f .body / 4096) 0xF_FFFF_FFFF_FFFF))
+      rw (b, same) (sized (eqb (f .dwords) 2) (eqb (f .body / 2048 % 2) 1) (eqb (f .body / 4096) 0xF_FFFF_FFFF_FFFF))
     where
       sized : (w s o : Bool) → (w && cond s (not o) true) ≡ not (not w || (s && o))
       sized true true o = refl
@@ -162,8 +162,8 @@ module _ (f : Frame) (h : f .at < 4) where
   in-class-0 true = refl
   in-class-0 false = refl
 
-  pub by-phrases : (m : Form) → f .byte0 ≡ firstOf m → Seven m (f .byte7) → Says m
-  unfolding shaped bodyIn allowedBody
+  pub by-phrases : (m : Form) → f .byte0 ≡ byte0Of m → Seven m (f .byte7) → Says m
+  unfolding wellFormed bodyIn allowedBody
   by-phrases Mrd32 b s = fetch-32 b
   by-phrases Mrd64 b s = fetch-64 b
   by-phrases Mwr32 b s = store-32 b
@@ -175,33 +175,33 @@ module _ (f : Frame) (h : f .at < 4) where
   by-phrases PageReq b s = rw b (in-class-0 (eqb (f .tc) 0))
   by-phrases PrgResp b s = rw (b, s) (in-class-0 (eqb (f .tc) 0))
 
-joined : (s a z : Bool) (x : Said Packet) → (s && a) ≡ not z → demand 4 s (demand 4 a x) ≡ refuse 4 z x
-joined true true true x e = no-tf e
-joined true true false x e = refl
-joined true false true x e = refl
-joined true false false x e = no-tf (sym e)
-joined false a true x e = refl
-joined false a false x e = no-tf (sym e)
+check-check : (s a z : Bool) (x : Result Packet) → (s && a) ≡ not z → check 4 s (check 4 a x) ≡ refuse 4 z x
+check-check true true true x e = no-tf e
+check-check true true false x e = refl
+check-check true false true x e = refl
+check-check true false false x e = no-tf (sym e)
+check-check false a true x e = refl
+check-check false a false x e = no-tf (sym e)
 
 -- a packet that is not refused with 1, 2 or 3 is refused with 4 exactly where it has one of those values
 pub reads-by-phrases : (b : List ℕ) → reading b ≡ readingByPhrases b
-unfolding reading readForm frameOf
-reads-by-phrases b = ap (λ (x : Said Packet). refuse 1 (ltb (length b) 12) (refuse 1 (ltb 144 (length b)) x)) (go (choose (frameOf b .byte0) (frameOf b .byte7)) refl)
+unfolding reading readForm decodeFrame
+reads-by-phrases b = ap (λ (x : Result Packet). refuse 1 (ltb (length b) 12) (refuse 1 (ltb 144 (length b)) x)) (go (choose (decodeFrame b .byte0) (decodeFrame b .byte7)) refl)
   where
-    go : (c : Choice) → choose (frameOf b .byte0) (frameOf b .byte7) ≡ c → readChoice c (frameOf b) (length b) ≡ readListed c (frameOf b) (length b)
+    go : (c : Choice) → choose (decodeFrame b .byte0) (decodeFrame b .byte7) ≡ c → readChoice c (decodeFrame b) (length b) ≡ readListed c (decodeFrame b) (length b)
     go Unlisted e = refl
     go (Listed m) e =
-        let f = frameOf b in
+        let f = decodeFrame b in
         let two : f .at < 4 = omega arith in
         let c = rw e at (chosen-by (f .byte0) (f .byte7)) in
-        ap (λ (x : Said Packet). demand 1 (eqb (length b) (lengthOf m (f .words))) (demand 3 (eqb (f .marks) 0) x)) (joined (shaped m f) (allowed (packetIn m f)) (forbidden f) (gives (packetIn m f)) (by-phrases f two m (c .0) (c .1)))
+        ap (λ (x : Result Packet). check 1 (eqb (length b) (packetLength m (f .dwords))) (check 3 (eqb (f .marks) 0) x)) (check-check (wellFormed m f) (allowed (packetIn m f)) (forbidden f) (ok (packetIn m f)) (by-phrases f two m (c .0) (c .1)))
 
 module _ (p : Packet) (ty : Typed p) where
-  allowed-by-phrases : within p ≡ true → allowed p ≡ not (forbidden (framed (p .head) (p .body)))
+  allowed-by-phrases : fieldsInRange p ≡ true → allowed p ≡ not (forbidden (packetFrame (p .head) (p .body)))
   allowed-by-phrases w =
       let bits = and-both (ltb (p .head .tc) 8) _ w in
       let m = formOf (p .body) in
-      let f = framed (p .head) (p .body) in
+      let f = packetFrame (p .head) (p .body) in
       let whole = fields (p .head) (ltb-true (p .head .tc) 8 (bits .0)) (ty .sender) (p .body) (bits .1) (ty .body) in
       let same : packetIn m f ≡ p = rw (whole .front, whole .back) in
       let c = rw (whole .chosen) at (chosen-by (f .byte0) (f .byte7)) in
@@ -210,8 +210,8 @@ module _ (p : Packet) (ty : Typed p) where
   -- and so it is on writing
   pub writes-by-phrases : (load room : ℕ) → writing p load room ≡ writingByPhrases p load room
   unfolding writing
-  writes-by-phrases load room = byCases (within p) (λ w. rw (w, allowed-by-phrases w) (ap (λ (x : Said ℕ). demand 12 (eqb load (loadOf (p .body))) x) (turned (forbidden (framed (p .head) (p .body)))))) (λ w. rw w)
+  writes-by-phrases load room = byCases (fieldsInRange p) (λ w. rw (w, allowed-by-phrases w) (ap (λ (x : Result ℕ). check 12 (eqb load (payloadLength (p .body))) x) (turned (forbidden (packetFrame (p .head) (p .body)))))) (λ w. rw w)
     where
-      turned : (z : Bool) → demand 4 (not z) (fitting (fixedOf (formOf (p .body)) + load) room) ≡ refuse 4 z (fitting (fixedOf (formOf (p .body)) + load) room)
+      turned : (z : Bool) → check 4 (not z) (checkRoom (payloadOffset (formOf (p .body)) + load) room) ≡ refuse 4 z (checkRoom (payloadOffset (formOf (p .body)) + load) room)
       turned true = refl
       turned false = refl

@@ -1,5 +1,5 @@
 -- A frame and the bytes that spell it, once for all kinds.
-use Prim.Native.Nat.{ℕ, zero, suc, _+_, _*_, _/_, _%_, _<_, _≤_}
+use Prim.Native.Nat.{ℕ, zero, suc, _+_, _*_, _/_, _%_, _<_, _≤_, _^_}
 use native.Mathlib.Omega.{arith}
 use native.Mathlib.Nat.{mod-lt, not-suc-le-zero, le-of-suc-le-suc}
 use mathlib.Core.Path.{_≡_, refl, sym, ap, _∙_}
@@ -11,9 +11,9 @@ use borrow.Author.Tests.{le-ltb}
 use Rattle.packet.specs.declared.Frame.{Frame}
 use Rattle.packet.specs.declared.Form.{Form}
 use Rattle.packet.specs.declared.Form.the-variants.{Mrd32, Mrd64, Mwr32, Mwr64, CplNoData, CplData, InvReq, InvCpl, PageReq, PrgResp}
-use Rattle.packet.specs.Frames.{byte, num16At, num32At, num64At, frameOf, four, spelled}
-use Rattle.packet.specs.Forms.{fixedOf}
-use Rattle.packet.specs.Kinds.{bodyIn, shaped}
+use Rattle.packet.specs.Frames.{byte, num16At, num32At, num64At, decodeFrame, fourBytes, encodeFrame}
+use Rattle.packet.specs.Forms.{payloadOffset}
+use Rattle.packet.specs.Kinds.{bodyIn, wellFormed}
 use Rattle.packet.specs.Reading.{readForm}
 use Rattle.tlp.specs.Frames.{Bytes}
 
@@ -23,23 +23,23 @@ pub record Sound (f : Frame) : Type 0 where
   pub tc : f .tc < 8
   pub marks : f .marks < 4
   pub at : f .at < 4
-  pub words : f .words < 1024
+  pub dwords : f .dwords < 1024
   pub sender : f .sender < 65536
   pub byte6 : f .byte6 < 256
   pub byte7 : f .byte7 < 256
-  pub dword8 : f .dword8 < 4294967296
-  pub dword12 : f .dword12 < 4294967296
-  pub body : f .body < 18446744073709551616
+  pub dword8 : f .dword8 < 2 ^ 32
+  pub dword12 : f .dword12 < 2 ^ 32
+  pub body : f .body < 2 ^ 64
 
 -- a frame as far as its first n bytes tell it
-abbrev pub cut : ℕ → Frame → Frame
-cut n f =
+abbrev pub upTo : ℕ → Frame → Frame
+upTo n f =
     record {
       byte0 = f .byte0;
       tc = f .tc;
       marks = f .marks;
       at = f .at;
-      words = f .words;
+      dwords = f .dwords;
       sender = f .sender;
       byte6 = f .byte6;
       byte7 = f .byte7;
@@ -49,21 +49,21 @@ cut n f =
     }
 
 -- what stands after the bytes that hold fields is not read
-pub read-cut : (m : Form) (f : Frame) (n : ℕ) → readForm m (cut (fixedOf m) f) n ≡ readForm m f n
-unfolding readForm bodyIn shaped
-read-cut Mrd32 f n = refl
-read-cut Mrd64 f n = refl
-read-cut Mwr32 f n = refl
-read-cut Mwr64 f n = refl
-read-cut CplNoData f n = refl
-read-cut CplData f n = refl
-read-cut InvReq f n = refl
-read-cut InvCpl f n = refl
-read-cut PageReq f n = refl
-read-cut PrgResp f n = refl
+pub read-upTo : (m : Form) (f : Frame) (n : ℕ) → readForm m (upTo (payloadOffset m) f) n ≡ readForm m f n
+unfolding readForm bodyIn wellFormed
+read-upTo Mrd32 f n = refl
+read-upTo Mrd64 f n = refl
+read-upTo Mwr32 f n = refl
+read-upTo Mwr64 f n = refl
+read-upTo CplNoData f n = refl
+read-upTo CplData f n = refl
+read-upTo InvReq f n = refl
+read-upTo InvCpl f n = refl
+read-upTo PageReq f n = refl
+read-upTo PrgResp f n = refl
 
 -- the fields stand in 12, 16 or 24 bytes
-by-fixed : (P : ℕ → Type 0) → P 12 → P 16 → P 24 → (m : Form) → P (fixedOf m)
+by-fixed : (P : ℕ → Type 0) → P 12 → P 16 → P 24 → (m : Form) → P (payloadOffset m)
 by-fixed P a b c Mrd32 = a
 by-fixed P a b c Mrd64 = b
 by-fixed P a b c Mwr32 = a
@@ -78,10 +78,10 @@ by-fixed P a b c PrgResp = b
 -- ---- from a frame to bytes and back
 
 -- four bytes spell their number
-abbrev joined : ℕ → ℕ → ℕ → ℕ → ℕ
-joined a b c d = (a * 256 + b) * 65536 + (c * 256 + d)
+abbrev fromBytes : ℕ → ℕ → ℕ → ℕ → ℕ
+fromBytes a b c d = (a * 256 + b) * 65536 + (c * 256 + d)
 
-four-back : (n : ℕ) → n < 4294967296 → joined (n / 16777216 % 256) (n / 65536 % 256) (n / 256 % 256) (n % 256) ≡ n
+four-back : (n : ℕ) → n < 2 ^ 32 → fromBytes (n / 16777216 % 256) (n / 65536 % 256) (n / 256 % 256) (n % 256) ≡ n
 four-back n h =
     let e : n / 16777216 % 256 ≡ n / 16777216 = omega arith in
     rw e (omega arith)
@@ -98,7 +98,7 @@ tc-back t h = omega arith
 two-back : (n : ℕ) → n < 65536 → n / 256 % 256 * 256 + n % 256 ≡ n
 two-back n h = omega arith
 
-pub halves : (n : ℕ) → n / 4294967296 * 4294967296 + n % 4294967296 ≡ n
+pub halves : (n : ℕ) → n / 2 ^ 32 * 2 ^ 32 + n % 2 ^ 32 ≡ n
 halves n = omega arith
 
 -- a frame with other fields from byte 12 on
@@ -109,7 +109,7 @@ ending f d b =
       tc = f .tc;
       marks = f .marks;
       at = f .at;
-      words = f .words;
+      dwords = f .dwords;
       sender = f .sender;
       byte6 = f .byte6;
       byte7 = f .byte7;
@@ -121,53 +121,53 @@ ending f d b =
 module _ (f : Frame) (s : Sound f) (z : f .marks ≡ 0) where
   -- what the first 12 bytes tell, whatever follows them
   first : (rest : List ℕ) →
-      frameOf (take 12 (spelled f) ++ rest)
-      ≡ ending f (frameOf (take 12 (spelled f) ++ rest) .dword12) (frameOf (take 12 (spelled f) ++ rest) .body)
-  unfolding frameOf
+      decodeFrame (take 12 (encodeFrame f) ++ rest)
+      ≡ ending f (decodeFrame (take 12 (encodeFrame f) ++ rest) .dword12) (decodeFrame (take 12 (encodeFrame f) ++ rest) .body)
+  unfolding decodeFrame
   first rest =
-      let b = byte2-back (f .at) (f .words) (s .at) (s .words) in
+      let b = byte2-back (f .at) (f .dwords) (s .at) (s .dwords) in
       simp (tc-back (f .tc) (s .tc), b .0, b .1, b .2, two-back (f .sender) (s .sender), four-back (f .dword8) (s .dword8), z)
 
   abbrev Back : ℕ → List ℕ → Type 0
-  Back n pay = cut n (frameOf (take n (spelled f) ++ pay)) ≡ cut n f
+  Back n pay = upTo n (decodeFrame (take n (encodeFrame f) ++ pay)) ≡ upTo n f
 
   back12 : (pay : List ℕ) → Back 12 pay
-  back12 pay = ap (cut 12) (first pay)
+  back12 pay = ap (upTo 12) (first pay)
 
   back16 : (pay : List ℕ) → Back 16 pay
-  unfolding frameOf
+  unfolding decodeFrame
   back16 pay =
-      let rest = four (f .dword12) ++ pay in
-      let h : 16 ≤ length (take 12 (spelled f) ++ rest) = omega arith in
-      ap (cut 16) (first rest) ∙ simp (le-ltb (length (take 12 (spelled f) ++ rest)) 16 h, four-back (f .dword12) (s .dword12))
+      let rest = fourBytes (f .dword12) ++ pay in
+      let h : 16 ≤ length (take 12 (encodeFrame f) ++ rest) = omega arith in
+      ap (upTo 16) (first rest) ∙ simp (le-ltb (length (take 12 (encodeFrame f) ++ rest)) 16 h, four-back (f .dword12) (s .dword12))
 
   back24 : (pay : List ℕ) → Back 24 pay
-  unfolding frameOf
+  unfolding decodeFrame
   back24 pay =
-      let hi : f .body / 4294967296 < 4294967296 = omega (arith, s .body) in
-      let lo : f .body % 4294967296 < 4294967296 = omega arith in
-      let rest = four (f .dword12) ++ four (f .body / 4294967296) ++ four (f .body % 4294967296) ++ pay in
-      let n = length (take 12 (spelled f) ++ rest) in
+      let hi : f .body / 2 ^ 32 < 2 ^ 32 = omega (arith, s .body) in
+      let lo : f .body % 2 ^ 32 < 2 ^ 32 = omega arith in
+      let rest = fourBytes (f .dword12) ++ fourBytes (f .body / 2 ^ 32) ++ fourBytes (f .body % 2 ^ 32) ++ pay in
+      let n = length (take 12 (encodeFrame f) ++ rest) in
       let h : 24 ≤ n = omega arith in
       let k : 16 ≤ n = omega arith in
-      ap (cut 24) (first rest)
+      ap (upTo 24) (first rest)
       ∙ simp (
         le-ltb n 16 k,
         le-ltb n 24 h,
         four-back (f .dword12) (s .dword12),
-        four-back (f .body / 4294967296) hi,
-        four-back (f .body % 4294967296) lo,
+        four-back (f .body / 2 ^ 32) hi,
+        four-back (f .body % 2 ^ 32) lo,
         halves (f .body),
       )
 
-  pub spelled-back : (m : Form) (pay : List ℕ) → Back (fixedOf m) pay
-  spelled-back m pay = by-fixed (λ (n : ℕ). Back n pay) (back12 pay) (back16 pay) (back24 pay) m
+  pub encodeFrame-back : (m : Form) (pay : List ℕ) → Back (payloadOffset m) pay
+  encodeFrame-back m pay = by-fixed (λ (n : ℕ). Back n pay) (back12 pay) (back16 pay) (back24 pay) m
 
 -- so many bytes stand before the payload
-pub fixed-length : (m : Form) (f : Frame) → length (take (fixedOf m) (spelled f)) ≡ fixedOf m
-fixed-length m f = by-fixed (λ (n : ℕ). length (take n (spelled f)) ≡ n) refl refl refl m
+pub fixed-length : (m : Form) (f : Frame) → length (take (payloadOffset m) (encodeFrame f)) ≡ payloadOffset m
+fixed-length m f = by-fixed (λ (n : ℕ). length (take n (encodeFrame f)) ≡ n) refl refl refl m
 
-pub fixed-low : (m : Form) → 12 ≤ fixedOf m
+pub fixed-low : (m : Form) → 12 ≤ payloadOffset m
 fixed-low m = by-fixed (λ (n : ℕ). 12 ≤ n) (lit≤ tt) (lit≤ tt) (lit≤ tt) m
 
 -- ---- from bytes to a frame and back
@@ -175,10 +175,10 @@ fixed-low m = by-fixed (λ (n : ℕ). 12 ≤ n) (lit≤ tt) (lit≤ tt) (lit≤ 
 pub num16-lt : (b : List ℕ) → Bytes b → (i : ℕ) → num16At b i < 65536
 num16-lt b h i = let p = h i in let q = h (i + 1) in omega arith
 
-pub num32-lt : (b : List ℕ) → Bytes b → (i : ℕ) → num32At b i < 4294967296
+pub num32-lt : (b : List ℕ) → Bytes b → (i : ℕ) → num32At b i < 2 ^ 32
 num32-lt b h i = let p = num16-lt b h i in let q = num16-lt b h (i + 2) in omega arith
 
-pub num64-lt : (b : List ℕ) → Bytes b → (i : ℕ) → num64At b i < 18446744073709551616
+pub num64-lt : (b : List ℕ) → Bytes b → (i : ℕ) → num64At b i < 2 ^ 64
 num64-lt b h i = let p = num32-lt b h i in let q = num32-lt b h (i + 4) in omega arith
 
 -- a field that may be missing
@@ -192,21 +192,21 @@ words-lt x y h = omega arith
 marks-lt : (x : ℕ) → x < 256 → x / 64 < 4
 marks-lt x h = omega arith
 
-pub frame-sound : (b : List ℕ) → Bytes b → Sound (frameOf b)
-unfolding frameOf
+pub frame-sound : (b : List ℕ) → Bytes b → Sound (decodeFrame b)
+unfolding decodeFrame
 frame-sound b h =
     record {
       byte0 = h 0;
       tc = mod-lt (byte b 1 / 16) (lit≤ tt);
       marks = marks-lt (byte b 2) (h 2);
       at = mod-lt (byte b 2 / 4) (lit≤ tt);
-      words = words-lt (byte b 2) (byte b 3) (h 3);
+      dwords = words-lt (byte b 2) (byte b 3) (h 3);
       sender = num16-lt b h 4;
       byte6 = h 6;
       byte7 = h 7;
       dword8 = num32-lt b h 8;
-      dword12 = missing-lt (ltb (length b) 16) (num32At b 12) 4294967296 (lit≤ tt) (num32-lt b h 12);
-      body = missing-lt (ltb (length b) 24) (num64At b 16) 18446744073709551616 (lit≤ tt) (num64-lt b h 16);
+      dword12 = missing-lt (ltb (length b) 16) (num32At b 12) (2 ^ 32) (lit≤ tt) (num32-lt b h 12);
+      body = missing-lt (ltb (length b) 24) (num64At b 16) (2 ^ 64) (lit≤ tt) (num64-lt b h 16);
     }
 
 -- the first n values of a function
@@ -227,7 +227,7 @@ full b =
       tc = byte b 1 / 16 % 8;
       marks = byte b 2 / 64;
       at = byte b 2 / 4 % 4;
-      words = byte b 2 % 4 * 256 + byte b 3;
+      dwords = byte b 2 % 4 * 256 + byte b 3;
       sender = num16At b 4;
       byte6 = byte b 6;
       byte7 = byte b 7;
@@ -236,10 +236,10 @@ full b =
       body = num64At b 16;
     }
 
-cut-full : (m : Form) (b : List ℕ) → fixedOf m ≤ length b → cut (fixedOf m) (frameOf b) ≡ cut (fixedOf m) (full b)
-unfolding frameOf
-cut-full m b h =
-    by-fixed (λ (n : ℕ). n ≤ length b → cut n (frameOf b) ≡ cut n (full b))
+upTo-full : (m : Form) (b : List ℕ) → payloadOffset m ≤ length b → upTo (payloadOffset m) (decodeFrame b) ≡ upTo (payloadOffset m) (full b)
+unfolding decodeFrame
+upTo-full m b h =
+    by-fixed (λ (n : ℕ). n ≤ length b → upTo n (decodeFrame b) ≡ upTo n (full b))
     (λ g. refl)
     (λ g. rw (le-ltb (length b) 16 g))
     (λ g. let k : 16 ≤ length b = omega arith in rw (le-ltb (length b) 16 k, le-ltb (length b) 24 g))
@@ -248,14 +248,14 @@ cut-full m b h =
 -- the four bytes of the number that four bytes spell
 module _ (a b c d : ℕ) (ha : a < 256) (hb : b < 256) (hc : c < 256) (hd : d < 256) where
   four-is :
-      (joined a b c d / 16777216 % 256 ≡ a)
-      × (joined a b c d / 65536 % 256 ≡ b)
-      × (joined a b c d / 256 % 256 ≡ c)
-      × (joined a b c d % 256 ≡ d)
+      (fromBytes a b c d / 16777216 % 256 ≡ a)
+      × (fromBytes a b c d / 65536 % 256 ≡ b)
+      × (fromBytes a b c d / 256 % 256 ≡ c)
+      × (fromBytes a b c d % 256 ≡ d)
   four-is =
-      let p : joined a b c d / 65536 ≡ a * 256 + b = omega arith in
-      let q : joined a b c d / 256 ≡ (a * 256 + b) * 256 + c = omega arith in
-      let r : joined a b c d / 16777216 ≡ a = omega arith in
+      let p : fromBytes a b c d / 65536 ≡ a * 256 + b = omega arith in
+      let q : fromBytes a b c d / 256 ≡ (a * 256 + b) * 256 + c = omega arith in
+      let r : fromBytes a b c d / 16777216 ≡ a = omega arith in
       (rw r (omega arith), rw p (omega arith), rw q (omega arith), omega arith)
 
 byte2-is : (x y : ℕ) → x < 16 → y < 256 →
@@ -269,13 +269,13 @@ two-is x y hx hy =
     let p : (x * 256 + y) / 256 ≡ x = omega arith in
     (rw p (omega arith), omega arith)
 
-pub halves-is : (x y : ℕ) → y < 4294967296 → ((x * 4294967296 + y) / 4294967296 ≡ x) × ((x * 4294967296 + y) % 4294967296 ≡ y)
+pub halves-is : (x y : ℕ) → y < 2 ^ 32 → ((x * 2 ^ 32 + y) / 2 ^ 32 ≡ x) × ((x * 2 ^ 32 + y) % 2 ^ 32 ≡ y)
 halves-is x y h = (omega arith, omega arith)
 
 -- bytes whose first DWORD has no ignored bit set, and neither TD nor EP, are spelled by their frame
 module _ (b : List ℕ) (h : Bytes b) (h1 : byte b 1 / 16 % 8 * 16 ≡ byte b 1) (h2 : byte b 2 < 16) where
-  spelled-full : spelled (full b) ≡ row 24 (byte b)
-  spelled-full =
+  encodeFrame-full : encodeFrame (full b) ≡ row 24 (byte b)
+  encodeFrame-full =
       let t : byte b 1 / 16 % 8 % 8 ≡ byte b 1 / 16 % 8 = omega arith in
       let p = byte2-is (byte b 2) (byte b 3) h2 (h 3) in
       let q = two-is (byte b 4) (byte b 5) (h 4) (h 5) in
@@ -311,10 +311,10 @@ module _ (b : List ℕ) (h : Bytes b) (h1 : byte b 1 / 16 % 8 * 16 ≡ byte b 1)
         b20 .3,
       )
 
-  pub spelled-cut : (m : Form) → fixedOf m ≤ length b → take (fixedOf m) (spelled (cut (fixedOf m) (frameOf b))) ≡ take (fixedOf m) b
-  spelled-cut m k =
-      ap (λ (f : Frame). take (fixedOf m) (spelled f)) (cut-full m b k)
-      ∙ by-fixed (λ (n : ℕ). take n (spelled (cut n (full b))) ≡ take n (spelled (full b))) refl refl refl m
-      ∙ ap (λ (l : List ℕ). take (fixedOf m) l) spelled-full
+  pub encodeFrame-upTo : (m : Form) → payloadOffset m ≤ length b → take (payloadOffset m) (encodeFrame (upTo (payloadOffset m) (decodeFrame b))) ≡ take (payloadOffset m) b
+  encodeFrame-upTo m k =
+      ap (λ (f : Frame). take (payloadOffset m) (encodeFrame f)) (upTo-full m b k)
+      ∙ by-fixed (λ (n : ℕ). take n (encodeFrame (upTo n (full b))) ≡ take n (encodeFrame (full b))) refl refl refl m
+      ∙ ap (λ (l : List ℕ). take (payloadOffset m) l) encodeFrame-full
       ∙ by-fixed (λ (n : ℕ). take n (row 24 (byte b)) ≡ row n (byte b)) refl refl refl m
-      ∙ sym (take-row (fixedOf m) b k)
+      ∙ sym (take-row (payloadOffset m) b k)

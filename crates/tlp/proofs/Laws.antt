@@ -8,7 +8,7 @@ use lib.Dec.{eqb}
 use lib.ListN.{length, take, drop, length-append, length-drop}
 use lib.Seq.{take-at, drop-at}
 use borrow.Author.Tests.{eq-eqb}
-use Rattle.lemmas.proofs.Cases.{byCases}
+use Rattle.lemmas.proofs.Cases.{byCases, impossible}
 use Rattle.packet.specs.declared.Packet.{Packet}
 use Rattle.packet.specs.declared.Completion.{Completion}
 use Rattle.packet.specs.declared.InvalidateRequest.{InvalidateRequest}
@@ -16,27 +16,27 @@ use Rattle.packet.specs.declared.Frame.{Frame}
 use Rattle.packet.specs.declared.Form.{Form}
 use Rattle.packet.specs.declared.Form.the-variants.{Mrd32, Mrd64, Mwr32, Mwr64, CplNoData, CplData, InvReq, InvCpl, PageReq, PrgResp}
 use Rattle.packet.specs.declared.Body.the-variants.{Cpl, Inv}
-use Rattle.packet.specs.Numbers.{gives, number}
+use Rattle.packet.specs.Numbers.{ok, refusal}
 use Rattle.packet.proofs.Laws.{accepted}
-use Rattle.packet.specs.Frames.{frameOf}
-use Rattle.packet.specs.Forms.{fixedOf}
-use Rattle.packet.specs.Kinds.{hasSize, allowedBody, bodyIn, loadOf}
+use Rattle.packet.specs.Frames.{decodeFrame}
+use Rattle.packet.specs.Forms.{payloadOffset}
+use Rattle.packet.specs.Kinds.{codesSize, allowedBody, bodyIn, payloadLength}
 use Rattle.packet.specs.Reading.{reading, payloadIn}
-use Rattle.packet.specs.Writing.{writing, bytesOf, after}
-use Rattle.span.specs.declared.Size.{Size}
-use Rattle.span.specs.declared.Size.the-variants.{Exponent, NoSize}
-use Rattle.span.specs.Size.{sizeOf}
-use Rattle.span.proofs.Laws.{no-size}
+use Rattle.packet.specs.Writing.{writing, bytesOf, bufferAfter}
+use Rattle.ranges.specs.declared.Size.{Size}
+use Rattle.ranges.specs.declared.Size.the-variants.{Exponent, NoSize}
+use Rattle.ranges.specs.Size.{sizeOf}
+use Rattle.ranges.proofs.Laws.{no-size}
 use Rattle.tlp.specs.Frames.{Bytes}
 use Rattle.tlp.proofs.Frames.{Sound, frame-sound}
 use Rattle.tlp.specs.Fields.{TypedBody, Typed}
-use Rattle.tlp.proofs.Trips.{written-reads, written-payload, written-length, read-writes, told, payload-is}
+use Rattle.tlp.proofs.RoundTrips.{written-reads, written-payload, written-length, read-writes, told, payload-is}
 
 -- ---- a packet that was sent stands at the start of the buffer
 
-module _ (p : Packet) (payload out : List ℕ) (n : ℕ) (ty : Typed p) (e : writing p (length payload) (length out) ≡ gives n) where
+module _ (p : Packet) (payload out : List ℕ) (n : ℕ) (ty : Typed p) (e : writing p (length payload) (length out) ≡ ok n) where
   abbrev sent : List ℕ
-  sent = after (writing p (length payload) (length out)) (bytesOf p payload) out
+  sent = bufferAfter (writing p (length payload) (length out)) (bytesOf p payload) out
 
   long : length (bytesOf p payload) ≡ n
   long = written-length p payload (length out) n ty e
@@ -52,14 +52,14 @@ module _ (p : Packet) (payload out : List ℕ) (n : ℕ) (ty : Typed p) (e : wri
   sent-length = rw e (length-append (bytesOf p payload) _ ∙ rw (long, length-drop n out) (omega (arith, accepted p (length payload) (length out) n e .fits)))
 
   -- and it reads as what it is
-  pub sent-reads : reading (take n sent) ≡ gives p
+  pub sent-reads : reading (take n sent) ≡ ok p
   sent-reads = rw sent-bytes (written-reads p payload (length out) n ty e)
 
   pub sent-payload : payloadIn (take n sent) ≡ payload
   sent-payload = rw sent-bytes (written-payload p payload (length out) n ty e)
 
 -- where nothing was sent there is no packet
-pub nothing-reads : reading [] ≡ number 1
+pub nothing-reads : reading [] ≡ refusal 1
 unfolding reading
 nothing-reads = refl
 
@@ -80,54 +80,54 @@ typed-in PageReq f s = omega (arith, s .dword8, s .dword12)
 typed-in PrgResp f s = omega (arith, s .dword8)
 
 -- only a completion is read as one
-from-12 : (m : Form) (f : Frame) (c : Completion) → bodyIn m f ≡ Cpl c → fixedOf m ≡ 12
+from-12 : (m : Form) (f : Frame) (c : Completion) → bodyIn m f ≡ Cpl c → payloadOffset m ≡ 12
 unfolding bodyIn
 from-12 Mrd32 f c q = refl
 from-12 Mrd64 f c q =
     byCases (eqb (f .at) 1)
-    (λ t. let r = rw t at q in let z : _≡_ {A = ℕ} 0 1 = cc in absurd (omega arith))
-    (λ t. let r = rw t at q in let z : _≡_ {A = ℕ} 0 1 = cc in absurd (omega arith))
+    (λ t. let r = rw t at q in impossible cc)
+    (λ t. let r = rw t at q in impossible cc)
 from-12 Mwr32 f c q = refl
-from-12 Mwr64 f c q = let z : _≡_ {A = ℕ} 0 1 = cc in absurd (omega arith)
+from-12 Mwr64 f c q = impossible cc
 from-12 CplNoData f c q = refl
 from-12 CplData f c q = refl
-from-12 InvReq f c q = let z : _≡_ {A = ℕ} 0 1 = cc in absurd (omega arith)
-from-12 InvCpl f c q = let z : _≡_ {A = ℕ} 0 1 = cc in absurd (omega arith)
-from-12 PageReq f c q = let z : _≡_ {A = ℕ} 0 1 = cc in absurd (omega arith)
-from-12 PrgResp f c q = let z : _≡_ {A = ℕ} 0 1 = cc in absurd (omega arith)
+from-12 InvReq f c q = impossible cc
+from-12 InvCpl f c q = impossible cc
+from-12 PageReq f c q = impossible cc
+from-12 PrgResp f c q = impossible cc
 
-module _ (b : List ℕ) (p : Packet) (h : Bytes b) (e : reading b ≡ gives p) where
+module _ (b : List ℕ) (p : Packet) (h : Bytes b) (e : reading b ≡ ok p) where
   pub read-typed : Typed p
-  unfolding frameOf
+  unfolding decodeFrame
   read-typed =
       let t = told b p h e in
       let s = frame-sound b h in
       record {
         sender = rw (← t .whole) (s .sender);
-        body = rw (← t .whole) (typed-in (t .form) (frameOf b) s);
+        body = rw (← t .whole) (typed-in (t .form) (decodeFrame b) s);
       }
 
   -- its payload is as long as it says
-  pub read-load : length (payloadIn b) ≡ loadOf (p .body)
+  pub read-load : length (payloadIn b) ≡ payloadLength (p .body)
   read-load = accepted p (length (payloadIn b)) (length b) (length b) (read-writes b p (length b) h e (omega arith)) .fills
 
   -- that of a completion begins at byte 12
   pub completion-payload : (c : Completion) → p .body ≡ Cpl c → payloadIn b ≡ drop 12 b
-  completion-payload c q = payload-is b p h e ∙ ap (λ (n : ℕ). drop n b) (from-12 (told b p h e .form) (frameOf b) c (ap (λ (x : Packet). x .body) (told b p h e .whole) ∙ q))
+  completion-payload c q = payload-is b p h e ∙ ap (λ (n : ℕ). drop n b) (from-12 (told b p h e .form) (decodeFrame b) c (ap (λ (x : Packet). x .body) (told b p h e .whole) ∙ q))
 
 -- ---- an Invalidate Request that was read has a size
 
-size-given : (a : ℕ) (s : Bool) → a < 2 ^ 64 → hasSize a s ≡ true → (e : ℕ) × (sizeOf a s ≡ Exponent e)
+size-given : (a : ℕ) (s : Bool) → a < 2 ^ 64 → codesSize a s ≡ true → (e : ℕ) × (sizeOf a s ≡ Exponent e)
 size-given a s h k = go (sizeOf a s) refl
   where
     all-ones : (s ≡ true) × (a / 4096 ≡ 0xF_FFFF_FFFF_FFFF) → ⊥
-    all-ones w = let q : not (eqb (a / 4096) 0xF_FFFF_FFFF_FFFF) ≡ true = rw (w .0) at k in let r : false ≡ true = rw (eq-eqb _ _ (w .1)) at q in let z : _≡_ {A = ℕ} 0 1 = cc in omega arith
+    all-ones w = let q : not (eqb (a / 4096) 0xF_FFFF_FFFF_FFFF) ≡ true = rw (w .0) at k in let r : false ≡ true = rw (eq-eqb _ _ (w .1)) at q in impossible cc
 
     go : (x : Size) → sizeOf a s ≡ x → (e : ℕ) × (sizeOf a s ≡ Exponent e)
     go (Exponent e) q = (e, q)
     go NoSize q = absurd (all-ones (no-size a s h q))
 
-pub read-sized : (b : List ℕ) (p : Packet) (i : InvalidateRequest) → Bytes b → reading b ≡ gives p → p .body ≡ Inv i → (e : ℕ) × (sizeOf (i .address) (i .sized) ≡ Exponent e)
+pub read-sized : (b : List ℕ) (p : Packet) (i : InvalidateRequest) → Bytes b → reading b ≡ ok p → p .body ≡ Inv i → (e : ℕ) × (sizeOf (i .address) (i .sized) ≡ Exponent e)
 unfolding TypedBody allowedBody
 read-sized b p i h e q =
     let ty = rw q at (read-typed b p h e .body) in

@@ -3,7 +3,7 @@ pub mod Fields
 pub mod Masks
 pub mod Tidy
 pub mod Refit
-pub mod Trips
+pub mod RoundTrips
 pub mod Forbidden
 pub mod Laws
-pub mod Words
+pub mod Qwords

@@ -10,11 +10,11 @@ use lib.Bits.{bitAnd, and-block, and-shr, and-mod, and-zero-r, and-le-l}
 use lib.Dec.{ltb, lit≤}
 use borrow.Author.Tests.{ltb-false}
 use Rattle.packet.specs.declared.Frame.{Frame}
-use Rattle.packet.specs.Frames.{byte, num16At, num32At, num64At, frameOf}
+use Rattle.packet.specs.Frames.{byte, num16At, num32At, num64At, decodeFrame}
 use Rattle.packet.specs.Normal.{masked}
 use Rattle.lemmas.proofs.Cases.{byCases}
 use Rattle.tlp.specs.Frames.{Bytes}
-use Rattle.tlp.proofs.Frames.{num16-lt, num32-lt, cut}
+use Rattle.tlp.proofs.Frames.{num16-lt, num32-lt, upTo}
 
 -- ---- lists
 
@@ -76,7 +76,7 @@ meet f g =
       tc = bitAnd (f .tc) (g .tc);
       marks = bitAnd (f .marks) (g .marks);
       at = bitAnd (f .at) (g .at);
-      words = bitAnd (f .words) (g .words);
+      dwords = bitAnd (f .dwords) (g .dwords);
       sender = bitAnd (f .sender) (g .sender);
       byte6 = bitAnd (f .byte6) (g .byte6);
       byte7 = bitAnd (f .byte7) (g .byte7);
@@ -105,8 +105,8 @@ module _ (ms b : List ℕ) (hm : Bytes ms) (hb : Bytes b) (long : 12 ≤ length 
   words-meet : bitAnd (byte b 2) (byte ms 2) % 4 * 256 + bitAnd (byte b 3) (byte ms 3) ≡ bitAnd (byte b 2 % 4 * 256 + byte b 3) (byte ms 2 % 4 * 256 + byte ms 3)
   words-meet = rw (and-mod (byte b 2) (byte ms 2) 2) (sym (and-block 8 (byte b 2 % 4) (byte ms 2 % 4) (byte b 3) (byte ms 3) (hb 3) (hm 3)))
 
-  pub frame-meet : cut (length ms) (frameOf (masked ms b)) ≡ meet (frameOf b) (frameOf ms)
-  unfolding frameOf
+  pub frame-meet : upTo (length ms) (decodeFrame (masked ms b)) ≡ meet (decodeFrame b) (decodeFrame ms)
+  unfolding decodeFrame
   frame-meet =
       let k4 : 4 + 1 < length ms = omega arith in
       let k8 : 8 + 3 < length ms = omega arith in

@@ -1,5 +1,5 @@
 -- The frame of a packet that was read is the frame it was read from, with its ignored bits zero.
-use Prim.Native.Nat.{ℕ, zero, suc, _+_, _*_, _/_, _%_, _<_, _≤_}
+use Prim.Native.Nat.{ℕ, zero, suc, _+_, _*_, _/_, _%_, _<_, _≤_, _^_}
 use native.Mathlib.Omega.{arith}
 use mathlib.Core.Path.{_≡_, refl, sym}
 use mathlib.Core.Bool.{Bool, true, false, cond, _&&_}
@@ -14,8 +14,8 @@ use Rattle.packet.specs.declared.Outcome.{Outcome}
 use Rattle.packet.specs.declared.Outcome.the-variants.{Data, Status}
 use Rattle.packet.specs.declared.Choice.{Choice}
 use Rattle.packet.specs.declared.Choice.the-variants.{Listed, Unlisted}
-use Rattle.packet.specs.Forms.{choose, firstOf, fixedOf, lengthOf, enablesOf}
-use Rattle.packet.specs.Kinds.{headIn, longIn, trIn, memIn, cplIn, bodyIn, accessLoad, accessForm, accessTag, outcomeForm, outcomeWords, outcomeStatus, outcomeLoad, withinOutcome, shapedMem, shapedFetch, shaped, withinBody, loadOf, wide, formOf, bitOf, upperOf, lowerOf, framed}
+use Rattle.packet.specs.Forms.{choose, byte0Of, payloadOffset, packetLength, byteEnables}
+use Rattle.packet.specs.Kinds.{headIn, address64In, trIn, memIn, cplIn, bodyIn, accessPayloadLength, accessForm, accessTag, outcomeForm, outcomeDwords, outcomeStatus, outcomePayloadLength, outcomeInRange, wellFormedMem, wellFormedReadRequest, wellFormed, bodyInRange, payloadLength, needs64Bits, formOf, bitOf, addressDword8, addressDword12, packetFrame}
 use Rattle.lemmas.proofs.Cases.{byCases, and-both}
 use Rattle.tlp.proofs.Frames.{Sound, halves-is}
 use Rattle.tlp.proofs.Tidy.{keeping, tidyStatus, tidyTarget, tidy}
@@ -37,7 +37,7 @@ Seven PrgResp b = b ≡ 0x05
 
 module _ (b0 b7 : ℕ) where
   abbrev Chosen : Choice → Type 0
-  Chosen (Listed m) = (b0 ≡ firstOf m) × Seven m b7
+  Chosen (Listed m) = (b0 ≡ byte0Of m) × Seven m b7
   Chosen Unlisted = Unit {0}
 
   tested : (t : Bool) (x y : Choice) → (t ≡ true → Chosen x) → Chosen y → Chosen (cond t x y)
@@ -96,12 +96,12 @@ module _ (x : ℕ) where
 -- the same below an upper half u
 module _ (u x : ℕ) where
   abbrev above : ℕ
-  above = u * 4294967296 + x
+  above = u * 2 ^ 32 + x
 
   parts-above :
-      (above / 4096 * 4096 ≡ u * 4294967296 + x / 4096 * 4096)
-      × (above / 4096 * 4096 + above % 2 ≡ u * 4294967296 + (x / 4096 * 4096 + x % 2))
-      × (above / 4 * 4 ≡ u * 4294967296 + x / 4 * 4)
+      (above / 4096 * 4096 ≡ u * 2 ^ 32 + x / 4096 * 4096)
+      × (above / 4096 * 4096 + above % 2 ≡ u * 2 ^ 32 + (x / 4096 * 4096 + x % 2))
+      × (above / 4 * 4 ≡ u * 2 ^ 32 + x / 4 * 4)
   parts-above = (omega arith, omega arith, omega arith)
 
 -- CPL: byte 6 and byte 7, and the DWORD
@@ -143,13 +143,13 @@ code-is x =
 -- what holds of the packet in a frame
 pub record Refit (m : Form) (f : Frame) : Type 0 where
   pub form : formOf (bodyIn m f) ≡ m
-  pub frame : framed (headIn f) (bodyIn m f) ≡ tidy m (eqb (f .at) 1) f
-  pub within : withinBody (bodyIn m f) ≡ true
-  pub load : fixedOf m + loadOf (bodyIn m f) ≡ lengthOf m (f .words)
+  pub frame : packetFrame (headIn f) (bodyIn m f) ≡ tidy m (eqb (f .at) 1) f
+  pub within : bodyInRange (bodyIn m f) ≡ true
+  pub load : payloadOffset m + payloadLength (bodyIn m f) ≡ packetLength m (f .dwords)
 
 module _ (f : Frame) (s : Sound f) (z : f .marks ≡ 0) where
-  words-fit : ltb (f .words) 1024 ≡ true
-  words-fit = lt-ltb (f .words) 1024 (s .words)
+  words-fit : ltb (f .dwords) 1024 ≡ true
+  words-fit = lt-ltb (f .dwords) 1024 (s .dwords)
 
   status-lt : f .byte6 / 32 < 8
   status-lt = omega (arith, s .byte6)
@@ -157,11 +157,11 @@ module _ (f : Frame) (s : Sound f) (z : f .marks ≡ 0) where
   -- TR, in one DWORD or two: m is its form, and a its address as it stands
   tr : (m : Form) (a : ℕ) →
       bodyIn m f ≡ trIn f a →
-      cond (wide (a / 4096 * 4096)) Mrd64 Mrd32 ≡ m →
-      tidy m (eqb (f .at) 1) f ≡ keeping f (f .at) (f .words) (f .byte6) (upperOf (a / 4096 * 4096 + a % 2)) (lowerOf (a / 4096 * 4096 + a % 2)) 0 →
-      fixedOf m + 0 ≡ lengthOf m (f .words) →
-      f .byte0 ≡ firstOf m → f .at ≡ 1 → f .byte7 ≡ 0xFF → Refit m f
-  unfolding formOf framed withinBody loadOf
+      cond (needs64Bits (a / 4096 * 4096)) Mrd64 Mrd32 ≡ m →
+      tidy m (eqb (f .at) 1) f ≡ keeping f (f .at) (f .dwords) (f .byte6) (addressDword8 (a / 4096 * 4096 + a % 2)) (addressDword12 (a / 4096 * 4096 + a % 2)) 0 →
+      payloadOffset m + 0 ≡ packetLength m (f .dwords) →
+      f .byte0 ≡ byte0Of m → f .at ≡ 1 → f .byte7 ≡ 0xFF → Refit m f
+  unfolding formOf packetFrame bodyInRange payloadLength
   tr m a body form clean load b0 e b7 =
       record {
         form = rw (body, form);
@@ -174,10 +174,10 @@ module _ (f : Frame) (s : Sound f) (z : f .marks ≡ 0) where
   mem : (m : Form) (access : Access) (a : ℕ) →
       bodyIn m f ≡ memIn f access a →
       accessForm access (a / 4 * 4) ≡ m →
-      tidy m (eqb (f .at) 1) f ≡ keeping f (f .at) (f .words) (accessTag access) (upperOf (a / 4 * 4)) (lowerOf (a / 4 * 4)) 0 →
-      fixedOf m + accessLoad access (f .words) ≡ lengthOf m (f .words) →
-      f .byte0 ≡ firstOf m → f .at % 2 ≡ 0 → f .byte7 ≡ enablesOf (f .words) → Refit m f
-  unfolding formOf framed withinBody loadOf
+      tidy m (eqb (f .at) 1) f ≡ keeping f (f .at) (f .dwords) (accessTag access) (addressDword8 (a / 4 * 4)) (addressDword12 (a / 4 * 4)) 0 →
+      payloadOffset m + accessPayloadLength access (f .dwords) ≡ packetLength m (f .dwords) →
+      f .byte0 ≡ byte0Of m → f .at % 2 ≡ 0 → f .byte7 ≡ byteEnables (f .dwords) → Refit m f
+  unfolding formOf packetFrame bodyInRange payloadLength
   mem m access a body form clean load b0 e b7 =
       record {
         form = rw (body, form);
@@ -187,25 +187,25 @@ module _ (f : Frame) (s : Sound f) (z : f .marks ≡ 0) where
       }
 
   -- an address in the first DWORD, or in both
-  short : (x : ℕ) → x ≤ f .dword8 → wide x ≡ false
-  short x h = let k = s .dword8 in let g : x < 4294967296 = omega arith in lt-leb 4294967296 x g
+  short : (x : ℕ) → x ≤ f .dword8 → needs64Bits x ≡ false
+  short x h = let k = s .dword8 in let g : x < 2 ^ 32 = omega arith in lt-leb (2 ^ 32) x g
 
-  long : (x r : ℕ) → x ≡ f .dword8 * 4294967296 + r → 0 < f .dword8 → r ≤ f .dword12 → (wide x ≡ true) × (x / 4294967296 ≡ f .dword8) × (x % 4294967296 ≡ r)
+  long : (x r : ℕ) → x ≡ f .dword8 * 2 ^ 32 + r → 0 < f .dword8 → r ≤ f .dword12 → (needs64Bits x ≡ true) × (x / 2 ^ 32 ≡ f .dword8) × (x % 2 ^ 32 ≡ r)
   long x r e u h =
       let k = s .dword12 in
-      let l : r < 4294967296 = omega arith in
-      let g : 4294967296 ≤ f .dword8 * 4294967296 + r = omega arith in
+      let l : r < 2 ^ 32 = omega arith in
+      let g : (2 ^ 32) ≤ f .dword8 * 2 ^ 32 + r = omega arith in
       let q = halves-is (f .dword8) r l in
-      rw e (le-leb 4294967296 (f .dword8 * 4294967296 + r) g, q .0, q .1)
+      rw e (le-leb (2 ^ 32) (f .dword8 * 2 ^ 32 + r) g, q .0, q .1)
 
   -- CPL, with data or without: m is its form
   cpl : (m : Form) (outcome : Outcome) →
       bodyIn m f ≡ cplIn f outcome →
       outcomeForm outcome ≡ m →
-      tidy m (eqb (f .at) 1) f ≡ keeping f 0 (outcomeWords outcome) (tidyStatus (f .byte6)) (tidyTarget (f .dword8)) 0 0 →
-      fixedOf m + outcomeLoad outcome ≡ lengthOf m (f .words) →
-      f .byte0 ≡ firstOf m → outcomeStatus outcome ≡ f .byte6 / 32 → withinOutcome outcome ≡ true → Refit m f
-  unfolding formOf framed withinBody loadOf
+      tidy m (eqb (f .at) 1) f ≡ keeping f 0 (outcomeDwords outcome) (tidyStatus (f .byte6)) (tidyTarget (f .dword8)) 0 0 →
+      payloadOffset m + outcomePayloadLength outcome ≡ packetLength m (f .dwords) →
+      f .byte0 ≡ byte0Of m → outcomeStatus outcome ≡ f .byte6 / 32 → outcomeInRange outcome ≡ true → Refit m f
+  unfolding formOf packetFrame bodyInRange payloadLength
   cpl m outcome body form clean load b0 e fits =
       let x = count-is (f .byte6) (f .byte7) (s .byte6) (s .byte7) in
       let n = f .byte6 % 16 * 256 + f .byte7 in
@@ -217,8 +217,8 @@ module _ (f : Frame) (s : Sound f) (z : f .marks ≡ 0) where
         load = rw (body, load);
       }
 
-  inv : f .byte0 ≡ 0x72 → f .byte7 ≡ 0x01 → f .words ≡ 2 → Refit InvReq f
-  unfolding formOf framed bodyIn withinBody loadOf tidy
+  inv : f .byte0 ≡ 0x72 → f .byte7 ≡ 0x01 → f .dwords ≡ 2 → Refit InvReq f
+  unfolding formOf packetFrame bodyIn bodyInRange payloadLength tidy
   inv b0 b7 e =
       let low : f .byte6 % 32 < 32 = omega arith in
       record {
@@ -229,7 +229,7 @@ module _ (f : Frame) (s : Sound f) (z : f .marks ≡ 0) where
       }
 
   ic : f .byte0 ≡ 0x32 → f .byte7 ≡ 0x02 → Refit InvCpl f
-  unfolding formOf framed bodyIn withinBody loadOf tidy
+  unfolding formOf packetFrame bodyIn bodyInRange payloadLength tidy
   ic b0 b7 =
       let low : f .dword8 % 8 < 8 = omega arith in
       record {
@@ -240,9 +240,9 @@ module _ (f : Frame) (s : Sound f) (z : f .marks ≡ 0) where
       }
 
   prq : f .byte0 ≡ 0x30 → f .byte7 ≡ 0x04 → Refit PageReq f
-  unfolding formOf framed bodyIn withinBody loadOf tidy
+  unfolding formOf packetFrame bodyIn bodyInRange payloadLength tidy
   prq b0 b7 =
-      let a = f .dword8 * 4294967296 + f .dword12 in
+      let a = f .dword8 * 2 ^ 32 + f .dword12 in
       let low : a / 8 % 512 < 512 = omega arith in
       let g = halves-is (f .dword8) (f .dword12) (s .dword12) in
       record {
@@ -253,7 +253,7 @@ module _ (f : Frame) (s : Sound f) (z : f .marks ≡ 0) where
       }
 
   prs : f .byte0 ≡ 0x32 → f .byte7 ≡ 0x05 → Refit PrgResp f
-  unfolding formOf framed bodyIn withinBody loadOf tidy
+  unfolding formOf packetFrame bodyIn bodyInRange payloadLength tidy
   prs b0 b7 =
       let d = f .dword8 in
       let hi : d / 4096 % 16 < 16 = omega arith in
@@ -266,13 +266,13 @@ module _ (f : Frame) (s : Sound f) (z : f .marks ≡ 0) where
       }
 
   -- the tests of a MEM
-  mem-shape : shapedMem f ≡ true → (f .at % 2 ≡ 0) × (f .byte7 ≡ enablesOf (f .words))
+  mem-shape : wellFormedMem f ≡ true → (f .at % 2 ≡ 0) × (f .byte7 ≡ byteEnables (f .dwords))
   mem-shape e =
-      let p = and-both (eqb (f .at % 2) 0) (eqb (f .byte7) (enablesOf (f .words))) e in
-      (eqb-true (f .at % 2) 0 (p .0), eqb-true (f .byte7) (enablesOf (f .words)) (p .1))
+      let p = and-both (eqb (f .at % 2) 0) (eqb (f .byte7) (byteEnables (f .dwords))) e in
+      (eqb-true (f .at % 2) 0 (p .0), eqb-true (f .byte7) (byteEnables (f .dwords)) (p .1))
 
   -- 00h and 20h are a TR or a MEM read
-  fetched : {A : Type 0} → shapedFetch f ≡ true → (f .at ≡ 1 → f .byte7 ≡ 0xFF → A) → (eqb (f .at) 1 ≡ false → f .at % 2 ≡ 0 → f .byte7 ≡ enablesOf (f .words) → A) → A
+  fetched : {A : Type 0} → wellFormedReadRequest f ≡ true → (f .at ≡ 1 → f .byte7 ≡ 0xFF → A) → (eqb (f .at) 1 ≡ false → f .at % 2 ≡ 0 → f .byte7 ≡ byteEnables (f .dwords) → A) → A
   fetched e t m =
       byCases (eqb (f .at) 1)
       (λ p. t (eqb-true (f .at) 1 p) (eqb-true (f .byte7) 0xFF (rw p at e)))
@@ -281,7 +281,7 @@ module _ (f : Frame) (s : Sound f) (z : f .marks ≡ 0) where
   long-shape : (t : Bool) → (ltb 0 (f .dword8) && t) ≡ true → (0 < f .dword8) × (t ≡ true)
   long-shape t e = let p = and-both (ltb 0 (f .dword8)) t e in (ltb-true 0 (f .dword8) (p .0), p .1)
 
-  refit-32 : shapedFetch f ≡ true → f .byte0 ≡ 0x00 → Refit Mrd32 f
+  refit-32 : wellFormedReadRequest f ≡ true → f .byte0 ≡ 0x00 → Refit Mrd32 f
   unfolding bodyIn tidy
   refit-32 e b0 =
       let d = f .dword8 in
@@ -293,35 +293,35 @@ module _ (f : Frame) (s : Sound f) (z : f .marks ≡ 0) where
       (λ a q. tr Mrd32 d (simp a) (simp x) (simp (a, y)) refl b0 a q)
       (λ a p q. mem Mrd32 (Read (record { 0 = f .byte6 })) d (simp a) (simp w) (simp (a, w)) refl b0 p q)
 
-  refit-64 : 0 < f .dword8 → shapedFetch f ≡ true → f .byte0 ≡ 0x20 → Refit Mrd64 f
+  refit-64 : 0 < f .dword8 → wellFormedReadRequest f ≡ true → f .byte0 ≡ 0x20 → Refit Mrd64 f
   unfolding bodyIn tidy
   refit-64 u e b0 =
       let l = f .dword12 in
       let k = parts-le l in
       let g = parts-above (f .dword8) l in
-      let x = long (longIn f / 4096 * 4096) (l / 4096 * 4096) (g .0) u (k .0) in
-      let y = long (longIn f / 4096 * 4096 + longIn f % 2) (l / 4096 * 4096 + l % 2) (g .1) u (k .1) in
-      let w = long (longIn f / 4 * 4) (l / 4 * 4) (g .2) u (k .2) in
+      let x = long (address64In f / 4096 * 4096) (l / 4096 * 4096) (g .0) u (k .0) in
+      let y = long (address64In f / 4096 * 4096 + address64In f % 2) (l / 4096 * 4096 + l % 2) (g .1) u (k .1) in
+      let w = long (address64In f / 4 * 4) (l / 4 * 4) (g .2) u (k .2) in
       fetched e
-      (λ a q. tr Mrd64 (longIn f) (simp a) (simp (x .0)) (simp (a, y .0, y .1, y .2)) refl b0 a q)
-      (λ a p q. mem Mrd64 (Read (record { 0 = f .byte6 })) (longIn f) (simp a) (simp (w .0)) (simp (a, w .0, w .1, w .2)) refl b0 p q)
+      (λ a q. tr Mrd64 (address64In f) (simp a) (simp (x .0)) (simp (a, y .0, y .1, y .2)) refl b0 a q)
+      (λ a p q. mem Mrd64 (Read (record { 0 = f .byte6 })) (address64In f) (simp a) (simp (w .0)) (simp (a, w .0, w .1, w .2)) refl b0 p q)
 
-  pub refit : (m : Form) → shaped m f ≡ true → f .byte0 ≡ firstOf m → Seven m (f .byte7) → Refit m f
-  unfolding shaped bodyIn tidy
+  pub refit : (m : Form) → wellFormed m f ≡ true → f .byte0 ≡ byte0Of m → Seven m (f .byte7) → Refit m f
+  unfolding wellFormed bodyIn tidy
   refit Mrd32 e b0 b7 = refit-32 e b0
-  refit Mrd64 e b0 b7 = let u = long-shape (shapedFetch f) e in refit-64 (u .0) (u .1) b0
+  refit Mrd64 e b0 b7 = let u = long-shape (wellFormedReadRequest f) e in refit-64 (u .0) (u .1) b0
   refit Mwr32 e b0 b7 =
       let g = mem-shape e in
       let w = short (f .dword8 / 4 * 4) (parts-le (f .dword8) .2) in
       mem Mwr32 Write (f .dword8) refl (simp w) (simp w) refl b0 (g .0) (g .1)
   refit Mwr64 e b0 b7 =
-      let u = long-shape (shapedMem f) e in
+      let u = long-shape (wellFormedMem f) e in
       let g = mem-shape (u .1) in
-      let w = long (longIn f / 4 * 4) (f .dword12 / 4 * 4) (parts-above (f .dword8) (f .dword12) .2) (u .0) (parts-le (f .dword12) .2) in
-      mem Mwr64 Write (longIn f) refl (simp (w .0)) (simp (w .0, w .1, w .2)) refl b0 (g .0) (g .1)
+      let w = long (address64In f / 4 * 4) (f .dword12 / 4 * 4) (parts-above (f .dword8) (f .dword12) .2) (u .0) (parts-le (f .dword12) .2) in
+      mem Mwr64 Write (address64In f) refl (simp (w .0)) (simp (w .0, w .1, w .2)) refl b0 (g .0) (g .1)
   refit CplNoData e b0 b7 = cpl CplNoData (Status (f .byte6 / 32)) refl refl refl refl b0 refl (lt-ltb (f .byte6 / 32) 8 status-lt)
-  refit CplData e b0 b7 = cpl CplData (Data (f .words)) refl refl refl refl b0 (sym (eqb-true (f .byte6 / 32) 0 e)) words-fit
-  refit InvReq e b0 b7 = inv b0 b7 (eqb-true (f .words) 2 e)
+  refit CplData e b0 b7 = cpl CplData (Data (f .dwords)) refl refl refl refl b0 (sym (eqb-true (f .byte6 / 32) 0 e)) words-fit
+  refit InvReq e b0 b7 = inv b0 b7 (eqb-true (f .dwords) 2 e)
   refit InvCpl e b0 b7 = ic b0 b7
   refit PageReq e b0 b7 = prq b0 b7
   refit PrgResp e b0 b7 = prs b0 b7

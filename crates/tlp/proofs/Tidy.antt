@@ -13,14 +13,14 @@ use borrow.Author.Tests.{ltb-true, leb-true, eqb-true}
 use Rattle.packet.specs.declared.Frame.{Frame}
 use Rattle.packet.specs.declared.Form.{Form}
 use Rattle.packet.specs.declared.Form.the-variants.{Mrd32, Mrd64, Mwr32, Mwr64, CplNoData, CplData, InvReq, InvCpl, PageReq, PrgResp}
-use Rattle.packet.specs.Frames.{byte, frameOf}
-use Rattle.packet.specs.Forms.{fixedOf}
-use Rattle.packet.specs.Kinds.{bodyIn, shaped}
+use Rattle.packet.specs.Frames.{byte, decodeFrame}
+use Rattle.packet.specs.Forms.{payloadOffset}
+use Rattle.packet.specs.Kinds.{bodyIn, wellFormed}
 use Rattle.packet.specs.Reading.{readForm}
 use Rattle.packet.specs.Normal.{maskOf, masked}
 use Rattle.lemmas.proofs.Cases.{byCases, and-both}
 use Rattle.tlp.specs.Frames.{Bytes}
-use Rattle.tlp.proofs.Frames.{Sound, cut, fixed-low, frame-sound}
+use Rattle.tlp.proofs.Frames.{Sound, upTo, fixed-low, frame-sound}
 use Rattle.tlp.proofs.Masks.{masked-at, masked-le, meet, frame-meet}
 
 -- ---- one mask
@@ -39,13 +39,13 @@ parted j k l x h =
 -- ---- the fields that a kind has, of a frame
 
 abbrev pub keeping : Frame → ℕ → ℕ → ℕ → ℕ → ℕ → ℕ → Frame
-keeping f at words byte6 dword8 dword12 body =
+keeping f at dwords byte6 dword8 dword12 body =
     record {
       byte0 = f .byte0;
       tc = f .tc;
       marks = f .marks;
       at = at;
-      words = words;
+      dwords = dwords;
       sender = f .sender;
       byte6 = byte6;
       byte7 = f .byte7;
@@ -65,19 +65,19 @@ abbrev pub tidyTarget : ℕ → ℕ
 tidyTarget x = x / 256 * 256 + x % 128
 
 unfoldable pub tidy : Form → Bool → Frame → Frame
-tidy Mrd32 tr f = keeping f (f .at) (f .words) (f .byte6) (tidyAddress tr (f .dword8)) 0 0
-tidy Mrd64 tr f = keeping f (f .at) (f .words) (f .byte6) (f .dword8) (tidyAddress tr (f .dword12)) 0
-tidy Mwr32 tr f = keeping f (f .at) (f .words) 0 (tidyAddress false (f .dword8)) 0 0
-tidy Mwr64 tr f = keeping f (f .at) (f .words) 0 (f .dword8) (tidyAddress false (f .dword12)) 0
+tidy Mrd32 tr f = keeping f (f .at) (f .dwords) (f .byte6) (tidyAddress tr (f .dword8)) 0 0
+tidy Mrd64 tr f = keeping f (f .at) (f .dwords) (f .byte6) (f .dword8) (tidyAddress tr (f .dword12)) 0
+tidy Mwr32 tr f = keeping f (f .at) (f .dwords) 0 (tidyAddress false (f .dword8)) 0 0
+tidy Mwr64 tr f = keeping f (f .at) (f .dwords) 0 (f .dword8) (tidyAddress false (f .dword12)) 0
 tidy CplNoData tr f = keeping f 0 0 (tidyStatus (f .byte6)) (tidyTarget (f .dword8)) 0 0
-tidy CplData tr f = keeping f 0 (f .words) (tidyStatus (f .byte6)) (tidyTarget (f .dword8)) 0 0
-tidy InvReq tr f = keeping f 0 (f .words) (f .byte6 % 32) (f .dword8 / 65536 * 65536) 0 (f .body / 2048 * 2048)
+tidy CplData tr f = keeping f 0 (f .dwords) (tidyStatus (f .byte6)) (tidyTarget (f .dword8)) 0 0
+tidy InvReq tr f = keeping f 0 (f .dwords) (f .byte6 % 32) (f .dword8 / 65536 * 65536) 0 (f .body / 2048 * 2048)
 tidy InvCpl tr f = keeping f 0 0 0 (f .dword8 / 65536 * 65536 + f .dword8 % 8) (f .dword12) 0
 tidy PageReq tr f = keeping f 0 0 0 (f .dword8) (f .dword12) 0
 tidy PrgResp tr f = keeping f 0 0 0 (f .dword8 / 4096 * 4096 + f .dword8 % 512) 0 0
 
 -- the masks of DWORDs and of the body
-module _ (x : ℕ) (h : x < 4294967296) where
+module _ (x : ℕ) (h : x < 2 ^ 32) where
   mask-tr : bitAnd x 0xFFFFF001 ≡ x / 4096 * 4096 + x % 2
   mask-tr = parted 20 12 1 x (lit≤ tt) ∙ omega arith
 
@@ -96,7 +96,7 @@ module _ (x : ℕ) (h : x < 4294967296) where
   mask-code : bitAnd x 0xFFFFF1FF ≡ x / 4096 * 4096 + x % 512
   mask-code = parted 20 12 9 x (lit≤ tt) ∙ omega arith
 
-mask-size : (x : ℕ) → x < 18446744073709551616 → bitAnd x 0xFFFFFFFFFFFFF800 ≡ x / 2048 * 2048
+mask-size : (x : ℕ) → x < 2 ^ 64 → bitAnd x 0xFFFFFFFFFFFFF800 ≡ x / 2048 * 2048
 mask-size x h = parted 53 11 0 x (lit≤ tt) ∙ omega arith
 
 mask-status : (x : ℕ) → x < 256 → bitAnd x 0xEF ≡ tidyStatus x
@@ -116,8 +116,8 @@ module _ (f : Frame) (s : Sound f) where
   all-at : bitAnd (f .at) 3 ≡ f .at
   all-at = whole 2 (f .at) (s .at)
 
-  all-words : bitAnd (f .words) 0x3FF ≡ f .words
-  all-words = whole 10 (f .words) (s .words)
+  all-words : bitAnd (f .dwords) 0x3FF ≡ f .dwords
+  all-words = whole 10 (f .dwords) (s .dwords)
 
   all-sender : bitAnd (f .sender) 0xFFFF ≡ f .sender
   all-sender = whole 16 (f .sender) (s .sender)
@@ -136,8 +136,8 @@ module _ (f : Frame) (s : Sound f) where
 
   ruleset alls = (all0, all-tc, all-marks, all-at, all-words, all-sender, all6, all7, all8, all12, and-zero-r)
 
-  pub tidy-is : (m : Form) (tr : Bool) → meet f (frameOf (maskOf m tr)) ≡ tidy m tr f
-  unfolding frameOf maskOf tidy
+  pub tidy-is : (m : Form) (tr : Bool) → meet f (decodeFrame (maskOf m tr)) ≡ tidy m tr f
+  unfolding decodeFrame maskOf tidy
   tidy-is Mrd32 true = simp (alls, mask-tr (f .dword8) (s .dword8))
   tidy-is Mrd32 false = simp (alls, mask-mem (f .dword8) (s .dword8))
   tidy-is Mrd64 true = simp (alls, mask-tr (f .dword12) (s .dword12))
@@ -195,7 +195,7 @@ judge n ms e =
     }
 
 -- what holds of each form's masks computes
-pub mask : (m : Form) (tr : Bool) → Mask (fixedOf m) (maskOf m tr)
+pub mask : (m : Form) (tr : Bool) → Mask (payloadOffset m) (maskOf m tr)
 unfolding maskOf below
 mask Mrd32 true = judge 12 (maskOf Mrd32 true) refl
 mask Mrd32 false = judge 12 (maskOf Mrd32 false) refl
@@ -244,17 +244,17 @@ module _ (x : ℕ) where
 -- the same below an upper half u
 module _ (u x : ℕ) where
   long-tr-kept :
-      ((u * 4294967296 + (x / 4096 * 4096 + x % 2)) / 4096 * 4096 ≡ (u * 4294967296 + x) / 4096 * 4096)
-      × ((u * 4294967296 + (x / 4096 * 4096 + x % 2)) % 2 ≡ (u * 4294967296 + x) % 2)
+      ((u * 2 ^ 32 + (x / 4096 * 4096 + x % 2)) / 4096 * 4096 ≡ (u * 2 ^ 32 + x) / 4096 * 4096)
+      × ((u * 2 ^ 32 + (x / 4096 * 4096 + x % 2)) % 2 ≡ (u * 2 ^ 32 + x) % 2)
   long-tr-kept = (omega arith, omega arith)
 
-  long-mem-kept : (u * 4294967296 + x / 4 * 4) / 4 * 4 ≡ (u * 4294967296 + x) / 4 * 4
+  long-mem-kept : (u * 2 ^ 32 + x / 4 * 4) / 4 * 4 ≡ (u * 2 ^ 32 + x) / 4 * 4
   long-mem-kept = omega arith
 
 -- a frame with its ignored bits zero is read as the frame is
 module _ (f : Frame) (n : ℕ) where
   pub read-tidy : (m : Form) → readForm m (tidy m (eqb (f .at) 1) f) n ≡ readForm m f n
-  unfolding readForm tidy bodyIn shaped
+  unfolding readForm tidy bodyIn wellFormed
   read-tidy Mrd32 =
       let x = tr-kept (f .dword8) in
       byCases (eqb (f .at) 1) (λ e. simp (e, x .0, x .1)) (λ e. simp (e, mem-kept (f .dword8)))
@@ -292,11 +292,11 @@ module _ (b : List ℕ) (h : Bytes b) (m : Form) (t : Bool) where
   mask-long : 12 ≤ length (maskOf m t)
   mask-long = let g = mask m t .long in let k = fixed-low m in omega arith
 
-  pub tidy-frame : cut (fixedOf m) (frameOf under) ≡ tidy m t (frameOf b)
+  pub tidy-frame : upTo (payloadOffset m) (decodeFrame under) ≡ tidy m t (decodeFrame b)
   tidy-frame =
-      ap (λ (n : ℕ). cut n (frameOf under)) (sym (mask m t .long))
+      ap (λ (n : ℕ). upTo n (decodeFrame under)) (sym (mask m t .long))
       ∙ frame-meet (maskOf m t) b (mask m t .bytes) h mask-long
-      ∙ tidy-is (frameOf b) (frame-sound b h) m t
+      ∙ tidy-is (decodeFrame b) (frame-sound b h) m t
 
   under-at : (i : ℕ) → i < 12 → byte under i ≡ bitAnd (byte b i) (byte (maskOf m t) i)
   under-at i k = let l = mask-long in let g : i < length (maskOf m t) = omega arith in masked-at (maskOf m t) b i g

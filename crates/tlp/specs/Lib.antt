@@ -2,4 +2,4 @@ pub mod Frames
 pub mod Fields
 pub mod Forbidden
 pub mod Translations
-pub mod Words
+pub mod Qwords

@@ -1,4 +1,4 @@
-// The packet layer, as the Function sees it: what is below stands in `span`, `packet`, `reader` and
+// The packet layer, as the Function sees it: what is below stands in `ranges`, `packet`, `reader` and
 // `writer`, and its laws in proofs/.
 ghost use mathlib.Core.Path.{_≡_};
 ghost use Rattle.tlp.specs.Translations.{translationAt};
@@ -21,28 +21,28 @@ pub use packet::Tag;
 pub use packet::TranslationRequest;
 pub use packet::Writing;
 pub use packet::number;
+pub use ranges::Range;
+pub use ranges::Size;
+pub use ranges::Translation;
+pub use ranges::overlaps;
+pub use ranges::range_from;
+pub use ranges::region;
+pub use ranges::region_number;
+pub use ranges::relocate;
+pub use ranges::rounded;
+pub use ranges::size_of;
+pub use ranges::translation_of;
+pub use ranges::unit_bytes;
+pub use ranges::unit_exponent;
+pub use ranges::units_from;
 pub use reader::part_from;
 pub use reader::payload;
 pub use reader::read_packet;
-pub use span::Range;
-pub use span::Size;
-pub use span::Translation;
-pub use span::meets;
-pub use span::moved;
-pub use span::reach;
-pub use span::region;
-pub use span::region_number;
-pub use span::rounded;
-pub use span::run;
-pub use span::size_of;
-pub use span::translation_of;
-pub use span::unit_bytes;
-pub use span::unit_exponent;
 pub use writer::write_packet;
 
 // Translation k of a payload.
 pub fn translation_at(payload: &[u8], k: usize) -> Translation
     ensures { λ r. ⌜ r ≡ translationAt (now (payload .entry)) k ⌝ }
 {
-    span::translation_of(reader::word(payload, k))
+    ranges::translation_of(reader::qword(payload, k))
 }

@@ -7,7 +7,7 @@ use lib.ListN.{length, take, drop, length-append, length-drop, drop-of-length-le
 use lib.Seq.{length-take-le, take-all, take-length, take-append-seam, drop-append-seam, drop-drop}
 use borrow.Rule.Slice.PartMut.{midOf, putMid}
 use Rattle.packet.specs.declared.Frame.{Frame}
-use Rattle.packet.specs.Frames.{spelled}
+use Rattle.packet.specs.Frames.{encodeFrame}
 
 pub two-copies : (h p d o l : List ℕ) → o ≡ take (length h) h ++ drop (length h) d → l ≡ take (length p) p ++ drop (length p) (midOf (length h) (length o - length h) o) → putMid (length h) (length o - length h) o l ≡ (h ++ p) ++ drop (length (h ++ p)) d
 two-copies h p d o l eo el =
@@ -20,5 +20,5 @@ two-copies h p d o l eo el =
     simp (t, l′, e, append-nil, length-append, append-assoc)
 
 -- The fields before the payload, cut from the 24 bytes of a frame.
-pub front-length : (n : ℕ) (l : List ℕ) (f : Frame) → l ≡ spelled f → n ≤ 24 → length (take n l) ≡ n
+pub front-length : (n : ℕ) (l : List ℕ) (f : Frame) → l ≡ encodeFrame f → n ≤ 24 → length (take n l) ≡ n
 front-length n l f e h = length-take-le n l (rw e h)

@@ -12,14 +12,14 @@ use packet::Outcome;
 use packet::PageRequest;
 use packet::PrgResponse;
 use packet::TranslationRequest;
-use packet::enables;
+use packet::byte_enables;
 ghost use mathlib.Core.Path.{_≡_};
 ghost use mathlib.Core.Bool.{cond};
 ghost use Prim.Native.Nat.{_≤_};
 ghost use Rattle.packet.specs.declared.Body.the-variants.{Tr, Mem, Cpl, Inv, Ic, Prq, Prs};
 ghost use Rattle.packet.specs.declared.Form.the-variants.{Mrd32, Mrd64, Mwr32, Mwr64};
-ghost use Rattle.packet.specs.Forms.{firstOf};
-ghost use Rattle.packet.specs.Kinds.{wide, accessForm, outcomeForm, formOf, bitOf, upperOf, lowerOf, accessTag, outcomeWords, outcomeStatus, framed};
+ghost use Rattle.packet.specs.Forms.{byte0Of};
+ghost use Rattle.packet.specs.Kinds.{needs64Bits, accessForm, outcomeForm, formOf, bitOf, addressDword8, addressDword12, accessTag, outcomeDwords, outcomeStatus, packetFrame};
 
 fn bit(b: bool) -> u8
     ensures { λ r. ⌜ (r ≡ bitOf b) × (r ≤ 1) ⌝ }
@@ -27,8 +27,8 @@ fn bit(b: bool) -> u8
     if b { 1 } else { 0 }
 }
 
-fn fetch_form(a: u64) -> Form
-    ensures { λ r. ⌜ r ≡ cond (wide a) Mrd64 Mrd32 ⌝ }
+fn read_form(a: u64) -> Form
+    ensures { λ r. ⌜ r ≡ cond (needs64Bits a) Mrd64 Mrd32 ⌝ }
 {
     if 4294967296 <= a {
         Form::Mrd64
@@ -37,8 +37,8 @@ fn fetch_form(a: u64) -> Form
     }
 }
 
-fn store_form(a: u64) -> Form
-    ensures { λ r. ⌜ r ≡ cond (wide a) Mwr64 Mwr32 ⌝ }
+fn write_form(a: u64) -> Form
+    ensures { λ r. ⌜ r ≡ cond (needs64Bits a) Mwr64 Mwr32 ⌝ }
 {
     if 4294967296 <= a {
         Form::Mwr64
@@ -51,8 +51,8 @@ fn access_form(access: Access, a: u64) -> Form
     ensures { λ r. ⌜ r ≡ accessForm access a ⌝ }
 {
     match access {
-        Access::Read(_) => fetch_form(a),
-        Access::Write => store_form(a),
+        Access::Read(_) => read_form(a),
+        Access::Write => write_form(a),
     }
 }
 
@@ -69,7 +69,7 @@ pub(crate) fn form_of(body: Body) -> Form
     ensures { λ r. ⌜ r ≡ formOf body ⌝ }
 {
     match body {
-        Body::Tr(t) => fetch_form(t.address),
+        Body::Tr(t) => read_form(t.address),
         Body::Mem(m) => {
             let access = m.access;
             access_form(access, m.address)
@@ -85,8 +85,8 @@ pub(crate) fn form_of(body: Body) -> Form
     }
 }
 
-fn first(m: Form) -> u8
-    ensures { λ r. ⌜ r ≡ firstOf m ⌝ }
+fn byte0(m: Form) -> u8
+    ensures { λ r. ⌜ r ≡ byte0Of m ⌝ }
 {
     match m {
         Form::Mrd32 => 0x00,
@@ -102,8 +102,8 @@ fn first(m: Form) -> u8
     }
 }
 
-fn upper(a: u64) -> u32
-    ensures { λ r. ⌜ r ≡ upperOf a ⌝ }
+fn address_dword8(a: u64) -> u32
+    ensures { λ r. ⌜ r ≡ addressDword8 a ⌝ }
 {
     if 4294967296 <= a {
         (a / 4294967296) as u32
@@ -112,8 +112,8 @@ fn upper(a: u64) -> u32
     }
 }
 
-fn lower(a: u64) -> u32
-    ensures { λ r. ⌜ r ≡ lowerOf a ⌝ }
+fn address_dword12(a: u64) -> u32
+    ensures { λ r. ⌜ r ≡ addressDword12 a ⌝ }
 {
     if 4294967296 <= a {
         (a % 4294967296) as u32
@@ -123,20 +123,20 @@ fn lower(a: u64) -> u32
 }
 
 fn tr(h: Head, t: TranslationRequest) -> Frame
-    ensures { λ r. ⌜ r ≡ framed h (Tr t) ⌝ }
+    ensures { λ r. ⌜ r ≡ packetFrame h (Tr t) ⌝ }
 {
     let a = t.address / 4096 * 4096 + bit(t.nowrite) as u64;
     Frame {
-        byte0: first(fetch_form(t.address)),
+        byte0: byte0(read_form(t.address)),
         tc: h.tc,
         marks: 0,
         at: 1,
-        words: t.words,
+        dwords: t.dwords,
         sender: h.sender,
         byte6: t.tag.0,
         byte7: 0xFF,
-        dword8: upper(a),
-        dword12: lower(a),
+        dword8: address_dword8(a),
+        dword12: address_dword12(a),
         body: 0,
     }
 }
@@ -151,29 +151,29 @@ fn access_tag(a: Access) -> u8
 }
 
 fn mem(h: Head, m: MemoryRequest) -> Frame
-    ensures { λ r. ⌜ r ≡ framed h (Mem m) ⌝ }
+    ensures { λ r. ⌜ r ≡ packetFrame h (Mem m) ⌝ }
 {
     let access = m.access;
     Frame {
-        byte0: first(access_form(access, m.address)),
+        byte0: byte0(access_form(access, m.address)),
         tc: h.tc,
         marks: 0,
         at: bit(m.translated) * 2,
-        words: m.words,
+        dwords: m.dwords,
         sender: h.sender,
         byte6: access_tag(access),
-        byte7: enables(m.words),
-        dword8: upper(m.address),
-        dword12: lower(m.address),
+        byte7: byte_enables(m.dwords),
+        dword8: address_dword8(m.address),
+        dword12: address_dword12(m.address),
         body: 0,
     }
 }
 
-fn outcome_words(o: Outcome) -> u16
-    ensures { λ r. ⌜ r ≡ outcomeWords o ⌝ }
+fn outcome_dwords(o: Outcome) -> u16
+    ensures { λ r. ⌜ r ≡ outcomeDwords o ⌝ }
 {
     match o {
-        Outcome::Data(words) => words,
+        Outcome::Data(dwords) => dwords,
         Outcome::Status(_) => 0,
     }
 }
@@ -188,15 +188,15 @@ fn outcome_status(o: Outcome) -> u8
 }
 
 fn cpl(h: Head, c: Completion) -> Frame
-    ensures { λ r. ⌜ r ≡ framed h (Cpl c) ⌝ }
+    ensures { λ r. ⌜ r ≡ packetFrame h (Cpl c) ⌝ }
 {
     let outcome = c.outcome;
     Frame {
-        byte0: first(outcome_form(outcome)),
+        byte0: byte0(outcome_form(outcome)),
         tc: h.tc,
         marks: 0,
         at: 0,
-        words: outcome_words(outcome),
+        dwords: outcome_dwords(outcome),
         sender: h.sender,
         byte6: outcome_status(outcome) % 8 * 32 + (c.count / 256 % 16) as u8,
         byte7: (c.count % 256) as u8,
@@ -207,14 +207,14 @@ fn cpl(h: Head, c: Completion) -> Frame
 }
 
 fn inv(h: Head, i: InvalidateRequest) -> Frame
-    ensures { λ r. ⌜ r ≡ framed h (Inv i) ⌝ }
+    ensures { λ r. ⌜ r ≡ packetFrame h (Inv i) ⌝ }
 {
     Frame {
         byte0: 0x72,
         tc: h.tc,
         marks: 0,
         at: 0,
-        words: 2,
+        dwords: 2,
         sender: h.sender,
         byte6: i.itag.0,
         byte7: 0x01,
@@ -225,14 +225,14 @@ fn inv(h: Head, i: InvalidateRequest) -> Frame
 }
 
 fn ic(h: Head, i: InvalidateCompletion) -> Frame
-    ensures { λ r. ⌜ r ≡ framed h (Ic i) ⌝ }
+    ensures { λ r. ⌜ r ≡ packetFrame h (Ic i) ⌝ }
 {
     Frame {
         byte0: 0x32,
         tc: h.tc,
         marks: 0,
         at: 0,
-        words: 0,
+        dwords: 0,
         sender: h.sender,
         byte6: 0,
         byte7: 0x02,
@@ -243,7 +243,7 @@ fn ic(h: Head, i: InvalidateCompletion) -> Frame
 }
 
 fn prq(h: Head, q: PageRequest) -> Frame
-    ensures { λ r. ⌜ r ≡ framed h (Prq q) ⌝ }
+    ensures { λ r. ⌜ r ≡ packetFrame h (Prq q) ⌝ }
 {
     let a = q.page / 4096 * 4096
         + q.index.0 as u64 % 512 * 8
@@ -255,7 +255,7 @@ fn prq(h: Head, q: PageRequest) -> Frame
         tc: h.tc,
         marks: 0,
         at: 0,
-        words: 0,
+        dwords: 0,
         sender: h.sender,
         byte6: 0,
         byte7: 0x04,
@@ -266,14 +266,14 @@ fn prq(h: Head, q: PageRequest) -> Frame
 }
 
 fn prs(h: Head, s: PrgResponse) -> Frame
-    ensures { λ r. ⌜ r ≡ framed h (Prs s) ⌝ }
+    ensures { λ r. ⌜ r ≡ packetFrame h (Prs s) ⌝ }
 {
     Frame {
         byte0: 0x32,
         tc: h.tc,
         marks: 0,
         at: 0,
-        words: 0,
+        dwords: 0,
         sender: h.sender,
         byte6: 0,
         byte7: 0x05,
@@ -283,8 +283,8 @@ fn prs(h: Head, s: PrgResponse) -> Frame
     }
 }
 
-pub(crate) fn frame_of(h: Head, body: Body) -> Frame
-    ensures { λ r. ⌜ r ≡ framed h body ⌝ }
+pub(crate) fn packet_frame(h: Head, body: Body) -> Frame
+    ensures { λ r. ⌜ r ≡ packetFrame h body ⌝ }
 {
     match body {
         Body::Tr(t) => tr(h, t),

@@ -10,25 +10,25 @@ use packet::Head;
 use packet::Packet;
 use packet::Refusal;
 use packet::Writing;
-use packet::fixed;
+use packet::payload_offset;
 ghost use mathlib.Core.Path.{_≡_};
 ghost use mathlib.Core.List.{_++_};
 ghost use Prim.Native.Nat.{_+_, _≤_};
 ghost use lib.ListN.{length, drop};
-ghost use Rattle.packet.specs.Frames.{spelled};
-ghost use Rattle.packet.specs.Forms.{fixedOf};
+ghost use Rattle.packet.specs.Frames.{encodeFrame};
+ghost use Rattle.packet.specs.Forms.{payloadOffset};
 ghost use Rattle.packet.specs.Kinds.{formOf};
-ghost use Rattle.packet.specs.Writing.{paperWritten, bytesOf, fitting, writing, after};
+ghost use Rattle.packet.specs.Writing.{writeResult, bytesOf, checkRoom, writing, bufferAfter};
 
 // The 24 bytes of a frame.
-fn spell(f: Frame) -> [u8; 24]
-    ensures { λ r. ⌜ r ≡ spelled f ⌝ }
+fn encode_frame(f: Frame) -> [u8; 24]
+    ensures { λ r. ⌜ r ≡ encodeFrame f ⌝ }
 {
     [
         f.byte0,
         f.tc % 8 * 16,
-        f.at % 4 * 4 + (f.words / 256 % 4) as u8,
-        (f.words % 256) as u8,
+        f.at % 4 * 4 + (f.dwords / 256 % 4) as u8,
+        (f.dwords % 256) as u8,
         (f.sender / 256 % 256) as u8,
         (f.sender % 256) as u8,
         f.byte6,
@@ -64,21 +64,21 @@ fn lay(front: &[u8], payload: &[u8], out: &mut [u8])
 
 // The packet at the start of out.
 fn put(p: Packet, payload: &[u8], out: &mut [u8])
-    requires { ⌜ fixedOf (formOf (p .body)) + length (now payload) ≤ length (now out) ⌝ }
+    requires { ⌜ payloadOffset (formOf (p .body)) + length (now payload) ≤ length (now out) ⌝ }
     ensures { λ _. ⌜ now (out .exit) ≡ bytesOf p (now (payload .entry)) ++ drop (length (bytesOf p (now (payload .entry)))) (now (out .entry)) ⌝ }
 {
     let head = p.head;
     let body = p.body;
-    let n = fixed(frames::form_of(body));
-    let front = spell(frames::frame_of(head, body));
+    let n = payload_offset(frames::form_of(body));
+    let front = encode_frame(frames::packet_frame(head, body));
     lay(&front[..n], payload, out);
 }
 
-fn fits(n: usize, room: usize) -> Writing
-    ensures { λ r. ⌜ paperWritten r ≡ fitting n room ⌝ }
+fn check_room(n: usize, room: usize) -> Writing
+    ensures { λ r. ⌜ writeResult r ≡ checkRoom n room ⌝ }
 {
     if room < n {
-        Writing::Refused(Refusal::Room)
+        Writing::Refused(Refusal::BufferTooShort)
     } else {
         Writing::Written(n)
     }
@@ -86,28 +86,28 @@ fn fits(n: usize, room: usize) -> Writing
 
 // What writing answers, for a payload of load bytes and a buffer of room bytes.
 fn answer(p: Packet, load: usize, room: usize) -> Writing
-    ensures { λ r. ⌜ paperWritten r ≡ writing p load room ⌝ }
+    ensures { λ r. ⌜ writeResult r ≡ writing p load room ⌝ }
 {
     let tc = p.head.tc;
     let body = p.body;
-    let within = limits::is_within(tc, body);
-    let due = limits::load(body);
+    let within = limits::are_fields_in_range(tc, body);
+    let due = limits::payload_length(body);
     let allowed = packet::is_allowed(tc, body);
     if within {
         if load != due {
-            return Writing::Refused(Refusal::Argument);
+            return Writing::Refused(Refusal::BadArgument);
         }
         if allowed {
-            return fits(fixed(frames::form_of(body)) + load, room);
+            return check_room(payload_offset(frames::form_of(body)) + load, room);
         }
-        return Writing::Refused(Refusal::Forbidden);
+        return Writing::Refused(Refusal::ForbiddenValue);
     }
-    Writing::Refused(Refusal::Argument)
+    Writing::Refused(Refusal::BadArgument)
 }
 
 pub fn write_packet(p: Packet, payload: &[u8], out: &mut [u8]) -> Writing
-    ensures answer { λ r. ⌜ paperWritten r ≡ writing p (length (now (payload .entry))) (length (now (out .entry))) ⌝ }
-    ensures buffer { λ _. ⌜ now (out .exit) ≡ after (writing p (length (now (payload .entry))) (length (now (out .entry)))) (bytesOf p (now (payload .entry))) (now (out .entry)) ⌝ }
+    ensures answer { λ r. ⌜ writeResult r ≡ writing p (length (now (payload .entry))) (length (now (out .entry))) ⌝ }
+    ensures buffer { λ _. ⌜ now (out .exit) ≡ bufferAfter (writing p (length (now (payload .entry))) (length (now (out .entry)))) (bytesOf p (now (payload .entry))) (now (out .entry)) ⌝ }
 {
     match answer(p, payload.len(), out.len()) {
         Writing::Written(n) => {

@@ -2,12 +2,12 @@
 use packet::Access;
 use packet::Body;
 use packet::Outcome;
-use packet::dwords;
+use packet::dword_count;
 ghost use mathlib.Core.Path.{_≡_};
 ghost use mathlib.Core.Bool.{_&&_};
 ghost use Prim.Native.Nat.{_≤_};
 ghost use lib.Dec.{ltb};
-ghost use Rattle.packet.specs.Kinds.{withinOutcome, withinBody, accessLoad, outcomeLoad, loadOf};
+ghost use Rattle.packet.specs.Kinds.{outcomeInRange, bodyInRange, accessPayloadLength, outcomePayloadLength, payloadLength};
 
 fn both(a: bool, b: bool) -> bool
     ensures { λ r. ⌜ r ≡ (a && b) ⌝ }
@@ -15,26 +15,26 @@ fn both(a: bool, b: bool) -> bool
     if a { b } else { false }
 }
 
-fn is_outcome_within(o: Outcome) -> bool
-    ensures { λ r. ⌜ r ≡ withinOutcome o ⌝ }
+fn is_outcome_in_range(o: Outcome) -> bool
+    ensures { λ r. ⌜ r ≡ outcomeInRange o ⌝ }
 {
     match o {
-        Outcome::Data(words) => words < 1024,
+        Outcome::Data(dwords) => dwords < 1024,
         Outcome::Status(status) => status < 8,
     }
 }
 
-fn is_body_within(body: Body) -> bool
-    ensures { λ r. ⌜ r ≡ withinBody body ⌝ }
+fn is_body_in_range(body: Body) -> bool
+    ensures { λ r. ⌜ r ≡ bodyInRange body ⌝ }
 {
     match body {
-        Body::Tr(t) => both(t.words < 1024, t.address % 4096 == 0),
-        Body::Mem(m) => both(m.words < 1024, m.address % 4 == 0),
+        Body::Tr(t) => both(t.dwords < 1024, t.address % 4096 == 0),
+        Body::Mem(m) => both(m.dwords < 1024, m.address % 4 == 0),
         Body::Cpl(c) => {
             let outcome = c.outcome;
             both(
                 c.count < 4096,
-                both(c.lower < 128, is_outcome_within(outcome)),
+                both(c.lower < 128, is_outcome_in_range(outcome)),
             )
         }
         Body::Inv(i) => both(i.itag.0 < 32, i.address % 4096 == 0),
@@ -44,43 +44,43 @@ fn is_body_within(body: Body) -> bool
     }
 }
 
-pub(crate) fn is_within(tc: u8, body: Body) -> bool
-    ensures { λ r. ⌜ r ≡ (ltb tc 8 && withinBody body) ⌝ }
+pub(crate) fn are_fields_in_range(tc: u8, body: Body) -> bool
+    ensures { λ r. ⌜ r ≡ (ltb tc 8 && bodyInRange body) ⌝ }
 {
-    both(tc < 8, is_body_within(body))
+    both(tc < 8, is_body_in_range(body))
 }
 
-fn access_load(a: Access, words: u16) -> usize
-    ensures { λ r. ⌜ (r ≡ accessLoad a words) × (r ≤ 262140) ⌝ }
+fn access_payload_length(a: Access, dwords: u16) -> usize
+    ensures { λ r. ⌜ (r ≡ accessPayloadLength a dwords) × (r ≤ 262140) ⌝ }
 {
     match a {
         Access::Read(_) => 0,
-        Access::Write => dwords(words) * 4,
+        Access::Write => dword_count(dwords) * 4,
     }
 }
 
-fn outcome_load(o: Outcome) -> usize
-    ensures { λ r. ⌜ (r ≡ outcomeLoad o) × (r ≤ 262140) ⌝ }
+fn outcome_payload_length(o: Outcome) -> usize
+    ensures { λ r. ⌜ (r ≡ outcomePayloadLength o) × (r ≤ 262140) ⌝ }
 {
     match o {
-        Outcome::Data(words) => dwords(words) * 4,
+        Outcome::Data(dwords) => dword_count(dwords) * 4,
         Outcome::Status(_) => 0,
     }
 }
 
 // The bytes of payload that the packet must be given.
-pub(crate) fn load(body: Body) -> usize
-    ensures { λ r. ⌜ (r ≡ loadOf body) × (r ≤ 262140) ⌝ }
+pub(crate) fn payload_length(body: Body) -> usize
+    ensures { λ r. ⌜ (r ≡ payloadLength body) × (r ≤ 262140) ⌝ }
 {
     match body {
         Body::Tr(_) => 0,
         Body::Mem(m) => {
             let access = m.access;
-            access_load(access, m.words)
+            access_payload_length(access, m.dwords)
         }
         Body::Cpl(c) => {
             let outcome = c.outcome;
-            outcome_load(outcome)
+            outcome_payload_length(outcome)
         }
         Body::Inv(_) => 0,
         Body::Ic(_) => 0,

@@ -4,7 +4,7 @@ use Prim.Native.Nat.{_-_, _≤_}
 use native.Mathlib.Omega.{arith}
 use lib.ListN.{length}
 use Rattle.lemmas.proofs.Maps.{mapTo, map-turn, map-keep, map-end}
-use Rattle.atc.specs.Cache.{entryDropped, nothing}
+use Rattle.atc.specs.Cache.{entryDropped, noEntry}
 use borrow.Author.Needs.{needs}
 use Rattle.atc.proofs.drop_slots.Statement.{statement}
 use Rattle.atc.proofs.drop_slots.Tie as tie
@@ -24,11 +24,11 @@ mul-e c = search needs
 array-copy-out-e : tie.Need-array-copy-out-e Inv-loop μ-loop
 array-copy-out-e c = search needs
 
-is-in-requires : tie.Need-is-in-requires Inv-loop μ-loop
-is-in-requires c κs = search needs
+entry-overlaps-requires : tie.Need-entry-overlaps-requires Inv-loop μ-loop
+entry-overlaps-requires c κs = search needs
 
-free-slot-requires : tie.Need-free-slot-requires Inv-loop μ-loop
-free-slot-requires c κs = search needs
+no-entry-requires : tie.Need-no-entry-requires Inv-loop μ-loop
+no-entry-requires c κs = search needs
 
 mul-slots : tie.Need-mul-slots Inv-loop μ-loop
 mul-slots c = search needs
@@ -46,12 +46,12 @@ loop-again : tie.Need-loop-again Inv-loop μ-loop
 loop-again c =
     let inv = c .before .before .before .before .loop .inv in
     let i = c .before .before .before .before .loop .i in
-    let is-in = c .before .is-in .ensures in (
+    let is-in = c .before .entry-overlaps .ensures in (
       inv .0,
       search needs,
       ⊎-elim
-          (λ w. w .2 ∙ map-turn _ i nothing _ (omega arith) (inv .2) (rw (w .1 .ensures, ← is-in, w .0 .taken)))
-          (λ w. w .1 ∙ map-keep _ i nothing _ (omega arith) (inv .2) (rw (← is-in, w .0 .left)))
+          (λ w. w .2 ∙ map-turn _ i noEntry _ (omega arith) (inv .2) (rw (w .1 .ensures, ← is-in, w .0 .taken)))
+          (λ w. w .1 ∙ map-keep _ i noEntry _ (omega arith) (inv .2) (rw (← is-in, w .0 .left)))
           (c .if1 .came),
     )
 
@@ -69,8 +69,8 @@ drop-slots-spec =
     loop-holds
     mul-e
     array-copy-out-e
-    is-in-requires
-    free-slot-requires
+    entry-overlaps-requires
+    no-entry-requires
     mul-slots
     array-set-from-slots
     add-i

@@ -8,8 +8,8 @@ use Rattle.atc.proofs.drop_unit.Tie as tie
 slot-of-requires : tie.Need-slot-of-requires
 slot-of-requires c κs = search needs
 
-free-slot-requires : tie.Need-free-slot-requires
-free-slot-requires c κs = search needs
+no-entry-requires : tie.Need-no-entry-requires
+no-entry-requires c κs = search needs
 
 mul-t8 : tie.Need-mul-t8
 mul-t8 c = search needs
@@ -21,7 +21,7 @@ returns : tie.Need-returns
 unfolding unitDropped
 returns c =
     let at = c .before .before .slot-of in
-    rw (← at .ensures, lt-ltb (at .result) 32 (omega arith), c .free-slot .ensures)
+    rw (← at .ensures, lt-ltb (at .result) 32 (omega arith), c .no-entry .ensures)
 
 returns-2 : tie.Need-returns-2
 unfolding unitDropped
@@ -32,4 +32,4 @@ returns-2 c =
 pub drop-unit-spec : {M : Type 1} → statement M
 drop-unit-spec =
     tie.close
-    (tie.spec slot-of-requires free-slot-requires mul-t8 element-set-from-c returns returns-2)
+    (tie.spec slot-of-requires no-entry-requires mul-t8 element-set-from-c returns returns-2)

@@ -1,5 +1,5 @@
 use Rattle.lemmas.proofs.Cases.{cases}
-use Rattle.atc.specs.Cache.{filled}
+use Rattle.atc.specs.Cache.{filledWith}
 use borrow.Author.Needs.{needs}
 use Rattle.atc.proofs.fill.Statement.{statement}
 use Rattle.atc.proofs.fill.Tie as tie
@@ -20,7 +20,7 @@ element-set-from-e : tie.Need-element-set-from-e
 element-set-from-e c = search needs
 
 returns : tie.Need-returns
-unfolding filled
+unfolding filledWith
 returns c = rw (← c .before .before .slot-of .ensures) (search cases depth 12)
 
 mul-e-2 : tie.Need-mul-e-2
@@ -30,7 +30,7 @@ element-set-from-e-2 : tie.Need-element-set-from-e-2
 element-set-from-e-2 c = search needs
 
 returns-2 : tie.Need-returns-2
-unfolding filled
+unfolding filledWith
 returns-2 c = rw (← c .before .before .before .slot-of .ensures, ← c .before .before .lowest-free .ensures) (search cases depth 12)
 
 cast-under : tie.Need-cast-under
@@ -43,7 +43,7 @@ element-set-from-e-3 : tie.Need-element-set-from-e-3
 element-set-from-e-3 c = search needs
 
 returns-3 : tie.Need-returns-3
-unfolding filled
+unfolding filledWith
 returns-3 c =
     let at = c .before .before .before in
     rw (← at .slot-of .ensures, ← c .before .before .lowest-free .ensures, ← at .before .wrapping-add-u32 .ensures) (search cases depth 12)

@@ -2,15 +2,15 @@ use mathlib.Core.Path.{_≡_, sym, _∙_}
 use Prim.Native.Nat.{_+_, _-_, _≤_}
 use native.Mathlib.Omega.{arith}
 use lib.ListN.{length, drop}
-use Rattle.lemmas.specs.First.{firstAt}
+use Rattle.lemmas.specs.First.{firstIndex}
 use Rattle.lemmas.proofs.First.{first-start, first-step, first-here, first-end}
-use Rattle.atc.specs.Cache.{holds}
+use Rattle.atc.specs.Cache.{isEntryOf}
 use borrow.Author.Needs.{needs}
 use Rattle.atc.proofs.slot_of.Statement.{statement}
 use Rattle.atc.proofs.slot_of.Tie as tie
 
 abbrev Inv-loop : tie.InvT-loop
-Inv-loop unit slots i₀ i = (length slots ≡ 32) × (i ≤ 32) × (firstAt (holds unit) slots ≡ i + firstAt (holds unit) (drop i slots))
+Inv-loop unit slots i₀ i = (length slots ≡ 32) × (i ≤ 32) × (firstIndex (isEntryOf unit) slots ≡ i + firstIndex (isEntryOf unit) (drop i slots))
 
 abbrev μ-loop : tie.MeasureT-loop
 μ-loop unit slots i₀ i = 32 - i
@@ -24,11 +24,11 @@ mul-e c = search needs
 array-copy-out-e : tie.Need-array-copy-out-e Inv-loop μ-loop
 array-copy-out-e c = search needs
 
-is-of-requires : tie.Need-is-of-requires Inv-loop μ-loop
-is-of-requires c κs = search needs
+is-entry-of-requires : tie.Need-is-entry-of-requires Inv-loop μ-loop
+is-entry-of-requires c κs = search needs
 
 returns : tie.Need-returns Inv-loop μ-loop
-returns c = first-here _ _ _ _ (omega arith) (sym (c .before .is-of .ensures) ∙ c .if1 .taken) (c .before .before .before .before .loop .inv .2)
+returns c = first-here _ _ _ _ (omega arith) (sym (c .before .is-entry-of .ensures) ∙ c .if1 .taken) (c .before .before .before .before .loop .inv .2)
 
 add-i : tie.Need-add-i Inv-loop μ-loop
 add-i c = search needs
@@ -39,7 +39,7 @@ loop-less c = search needs
 loop-again : tie.Need-loop-again Inv-loop μ-loop
 loop-again c =
     let inv = c .before .before .before .before .loop .inv in
-    (inv .0, search needs, first-step _ _ _ _ (omega arith) (sym (c .before .is-of .ensures) ∙ c .if1 .left) (inv .2))
+    (inv .0, search needs, first-step _ _ _ _ (omega arith) (sym (c .before .is-entry-of .ensures) ∙ c .if1 .left) (inv .2))
 
 returns-2 : tie.Need-returns-2 Inv-loop μ-loop
 returns-2 c = first-end _ _ _ (omega arith) (c .before .loop .inv .2)
@@ -53,7 +53,7 @@ slot-of-spec =
     loop-holds
     mul-e
     array-copy-out-e
-    is-of-requires
+    is-entry-of-requires
     returns
     add-i
     loop-less

@@ -1,7 +1,7 @@
 use denote.Ref.{now}
 use Rattle.state.specs.Switches.{resetting, enabling, disabling, switchingOn, switchingOff}
-use Rattle.receives.specs.Receive.{received}
-use Rattle.state.proofs.Ends.{quiet}
+use Rattle.call_receive.specs.Receive.{received}
+use Rattle.state.proofs.Commits.{quiet}
 use Rattle.card.specs.Call.{calling}
 use borrow.Author.Needs.{needs}
 use Rattle.card.proofs.call.Statement.{statement}

@@ -24,8 +24,8 @@ is-allowed-outcome-requires c κs = search needs
 enum-known-body-4 : tie.Need-enum-known-body-4
 enum-known-body-4 c = search needs
 
-has-size-requires : tie.Need-has-size-requires
-has-size-requires c κs = search needs
+codes-size-requires : tie.Need-codes-size-requires
+codes-size-requires c κs = search needs
 
 enum-told : tie.Need-enum-told
 enum-told c = search needs
@@ -50,7 +50,7 @@ returns-3 c = rw (c .before .before .body3 .given .1) (c .is-allowed-outcome .en
 
 returns-4 : tie.Need-returns-4
 unfolding allowedBody
-returns-4 c = rw (c .before .before .body4 .given .1) (c .has-size .ensures)
+returns-4 c = rw (c .before .before .body4 .given .1) (c .codes-size .ensures)
 
 returns-5 : tie.Need-returns-5
 unfolding allowedBody
@@ -75,7 +75,7 @@ is-allowed-spec =
     enum-known-body-3
     is-allowed-outcome-requires
     enum-known-body-4
-    has-size-requires
+    codes-size-requires
     enum-told
     enum-told-2
     enum-told-3

@@ -2,15 +2,15 @@ use mathlib.Core.Path.{_≡_}
 use Prim.Native.Nat.{_+_, _-_, _*_, _≤_}
 use native.Mathlib.Omega.{arith}
 use lib.ListN.{length, drop}
-use Rattle.lemmas.specs.Gather.{gather}
-use Rattle.lemmas.proofs.Gather.{gather-start, gather-turn}
-use Rattle.pages.specs.Pages.{idle, requestsOf, used}
+use Rattle.lemmas.specs.Fold.{foldMap}
+use Rattle.lemmas.proofs.Fold.{foldMap-start, foldMap-turn}
+use Rattle.pages.specs.Pages.{idle, requestsOf, usedCredits}
 use borrow.Author.Needs.{needs}
 use Rattle.pages.proofs.used_credits.Statement.{statement}
 use Rattle.pages.proofs.used_credits.Tie as tie
 
 abbrev Inv-loop : tie.InvT-loop
-Inv-loop groups sum₀ i₀ sum i = (length groups ≡ 32) × (i ≤ 32) × (sum ≤ 0xFFFF * (32 - i)) × (sum ≡ gather _+_ requestsOf (drop i groups))
+Inv-loop groups sum₀ i₀ sum i = (length groups ≡ 32) × (i ≤ 32) × (sum ≤ 0xFFFF * (32 - i)) × (sum ≡ foldMap _+_ requestsOf (drop i groups))
 
 abbrev μ-loop : tie.MeasureT-loop
 μ-loop groups sum₀ i₀ sum i = i
@@ -18,7 +18,7 @@ abbrev μ-loop : tie.MeasureT-loop
 loop-holds : tie.Need-loop-holds Inv-loop μ-loop
 loop-holds c =
     let fit : length (c .args .t1) ≡ 32 = search needs in
-    (fit, search needs, search needs, gather-start _+_ requestsOf 32 (c .args .t1) fit)
+    (fit, search needs, search needs, foldMap-start _+_ requestsOf 32 (c .args .t1) fit)
 
 sub-i : tie.Need-sub-i Inv-loop μ-loop
 sub-i c = search needs
@@ -43,10 +43,10 @@ loop-again c =
     let inv = c .before .before .before .loop .inv in
     let i = c .before .before .before .loop .i in
     let next : i - 1 + 1 ≡ i = omega arith in
-    (inv .0, search needs, search needs, gather-turn _ _ (i - 1) idle _ (omega arith) (rw next (inv .3)) (c .requests-of .ensures .0))
+    (inv .0, search needs, search needs, foldMap-turn _ _ (i - 1) idle _ (omega arith) (rw next (inv .3)) (c .requests-of .ensures .0))
 
 returns : tie.Need-returns Inv-loop μ-loop
-unfolding used
+unfolding usedCredits
 returns c =
     let inv = c .before .loop .inv in
     let done : c .before .loop .i ≡ 0 = omega arith in

@@ -23,8 +23,8 @@ choice-requires c κs = search needs
 enum-known-m : tie.Need-enum-known-m
 enum-known-m c = search needs
 
-fixed-requires : tie.Need-fixed-requires
-fixed-requires c κs = search needs
+payload-offset-requires : tie.Need-payload-offset-requires
+payload-offset-requires c κs = search needs
 
 part-from-requires : tie.Need-part-from-requires
 part-from-requires c κs = search needs
@@ -38,7 +38,7 @@ slice-aggregate-result-2 c = search needs
 returns-2 : tie.Need-returns-2
 unfolding payloadIn
 returns-2 c = let k = c .before .before .before .before .before in
-    rw (← k .choice .ensures, c .before .before .before .m .given .1, ← c .before .fixed .ensures .0) (search (cases, c .part-from .ensures) depth 14)
+    rw (← k .choice .ensures, c .before .before .before .m .given .1, ← c .before .payload-offset .ensures .0) (search (cases, c .part-from .ensures) depth 14)
 
 returns-3 : tie.Need-returns-3
 unfolding payloadIn
@@ -55,7 +55,7 @@ payload-spec =
     shared-slice-read-choice-2
     choice-requires
     enum-known-m
-    fixed-requires
+    payload-offset-requires
     part-from-requires
     enum-told
     slice-aggregate-result-2

@@ -12,8 +12,8 @@ returns-2 : tie.Need-returns-2
 unfolding reading
 returns-2 c = search cases depth 14
 
-frame-requires : tie.Need-frame-requires
-frame-requires c κs = search needs
+decode-frame-requires : tie.Need-decode-frame-requires
+decode-frame-requires c κs = search needs
 
 choice-requires : tie.Need-choice-requires
 choice-requires c κs = search needs
@@ -30,12 +30,12 @@ enum-told c = search needs
 returns-3 : tie.Need-returns-3
 unfolding reading
 returns-3 c = let k = c .before .before .before .before in
-    rw (← k .before .frame .ensures, ← k .choice .ensures, c .before .before .m .given .1) (search (cases, c .read-form .ensures) depth 14)
+    rw (← k .before .decode-frame .ensures, ← k .choice .ensures, c .before .before .m .given .1) (search (cases, c .read-form .ensures) depth 14)
 
 returns-4 : tie.Need-returns-4
 unfolding reading
 returns-4 c = let k = c .before .before in
-    rw (← k .before .frame .ensures, ← k .choice .ensures, c .enum-told .given .1) (search cases depth 14)
+    rw (← k .before .decode-frame .ensures, ← k .choice .ensures, c .enum-told .given .1) (search cases depth 14)
 
 pub read-packet-spec : {M : Type 1} → statement M
 read-packet-spec =
@@ -43,7 +43,7 @@ read-packet-spec =
     (tie.spec
     returns
     returns-2
-    frame-requires
+    decode-frame-requires
     choice-requires
     enum-known-m
     read-form-requires

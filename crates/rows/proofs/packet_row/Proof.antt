@@ -1,5 +1,5 @@
 use borrow.Author.Tests.{lt-ltb}
-use Rattle.packet.specs.Numbers.{gives}
+use Rattle.packet.specs.Numbers.{ok}
 use Rattle.rows.specs.Rows.{rowIn}
 use Rattle.rows.proofs.Laying.{row}
 use borrow.Author.Needs.{needs}
@@ -32,7 +32,7 @@ returns-2 c =
     let b = c .before .before .before .before .before .before .before .before .before .before .byte in
     let a = c .before .before .before .before .before .before .packet in
     let e = c .before .before .byte2 in
-    row (start .args .k) (gives (start .args .p)) (start .args .out .now) (k .result) (k .last .0) (b .result) (b .last .0) (a .result) (a .last .0) (e .result) (e .last .0) (c .before .before .before .before .before .before .before .before .before .before .before .before .before .before .before .before .if1 .left)
+    row (start .args .k) (ok (start .args .p)) (start .args .out .now) (k .result) (k .last .0) (b .result) (b .last .0) (a .result) (a .last .0) (e .result) (e .last .0) (c .before .before .before .before .before .before .before .before .before .before .before .before .before .before .before .before .if1 .left)
     (k .ensures .0) (b .ensures) (a .ensures .0) (e .ensures)
 
 pub packet-row-spec : {M : Type 1} → statement M

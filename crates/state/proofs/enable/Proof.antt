@@ -1,4 +1,4 @@
-use Rattle.state.proofs.Ends.{end-take, end-skip}
+use Rattle.state.proofs.Commits.{commit-take, commit-skip}
 use mathlib.Core.Path.{refl}
 use Rattle.state.specs.Switches.{enabling}
 use borrow.Author.Needs.{needs}
@@ -10,16 +10,16 @@ answered-requires c κs = search needs
 
 returns : tie.Need-returns
 unfolding enabling
-returns c = rw (c .answered .ensures) (end-take _ _ _ _ _ _ (c .before .if1 .taken) refl)
+returns c = rw (c .answered .ensures) (commit-take _ _ _ _ _ _ (c .before .if1 .taken) refl)
 
 empty-requires : tie.Need-empty-requires
 empty-requires c κs = search needs
 
-stale-all-requires : tie.Need-stale-all-requires
-stale-all-requires c κs = search needs
+all-stale-requires : tie.Need-all-stale-requires
+all-stale-requires c κs = search needs
 
-with-places-requires : tie.Need-with-places-requires
-with-places-requires c κs = search needs
+with-tags-requires : tie.Need-with-tags-requires
+with-tags-requires c κs = search needs
 
 with-cache-requires : tie.Need-with-cache-requires
 with-cache-requires c κs = search needs
@@ -34,8 +34,8 @@ returns-2 : tie.Need-returns-2
 unfolding enabling
 returns-2 c = let k = c .before .before .before in
     let q = k .before .before in
-    simp (c .answered2 .ensures, c .before .with-enable .ensures, c .before .before .with-cache .ensures, k .with-places .ensures, k .before .stale-all .ensures, q .empty .ensures)
-    (end-skip _ _ _ _ _ _ (q .before .before .before .if1 .left) refl)
+    simp (c .answered2 .ensures, c .before .with-enable .ensures, c .before .before .with-cache .ensures, k .with-tags .ensures, k .before .all-stale .ensures, q .empty .ensures)
+    (commit-skip _ _ _ _ _ _ (q .before .before .before .if1 .left) refl)
 
 pub enable-spec : {M : Type 1} → statement M
 enable-spec =
@@ -44,8 +44,8 @@ enable-spec =
     answered-requires
     returns
     empty-requires
-    stale-all-requires
-    with-places-requires
+    all-stale-requires
+    with-tags-requires
     with-cache-requires
     with-enable-requires
     answered-requires-2

@@ -1,7 +1,7 @@
 use mathlib.Core.Path.{sym, ap, _∙_}
 use mathlib.Core.List.{[]}
 use Rattle.pages.specs.declared.Interface.{Interface}
-use Rattle.state.specs.Answers.{ended}
+use Rattle.state.specs.Answers.{commit}
 use Rattle.state.specs.Switches.{switchingOn}
 use borrow.Author.Needs.{needs}
 use Rattle.state.proofs.pages_on.Statement.{statement}
@@ -27,7 +27,7 @@ refused-requires-2 c κs = search needs
 
 returns : tie.Need-returns
 returns c = let a = c .before .before .before .before .args in
-    c .switch-on .ensures ∙ ap (λ (i : Interface). ended (a .f) [] (switchingOn (a .f) (a .allocation) i)) (sym (c .before .enum-told .given .1))
+    c .switch-on .ensures ∙ ap (λ (i : Interface). commit (a .f) [] (switchingOn (a .f) (a .allocation) i)) (sym (c .before .enum-told .given .1))
 
 returns-2 : tie.Need-returns-2
 unfolding switchingOn

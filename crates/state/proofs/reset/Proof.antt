@@ -1,4 +1,4 @@
-use Rattle.state.proofs.Ends.{end-take, end-skip}
+use Rattle.state.proofs.Commits.{commit-take, commit-skip}
 use mathlib.Core.Path.{refl, sym, _∙_}
 use borrow.Author.Tests.{lt-leb, le-leb}
 use Rattle.state.specs.Switches.{resetting}
@@ -11,7 +11,7 @@ refused-requires c κs = search needs
 
 returns : tie.Need-returns
 unfolding resetting
-returns c = rw (c .refused .ensures) (end-skip _ _ _ _ _ _ (lt-leb _ _ (c .before .if1 .taken)) refl)
+returns c = rw (c .refused .ensures) (commit-skip _ _ _ _ _ _ (lt-leb _ _ (c .before .if1 .taken)) refl)
 
 is-rcb-requires : tie.Need-is-rcb-requires
 is-rcb-requires c κs = search needs
@@ -30,11 +30,11 @@ refused-requires-2 c κs = search needs
 
 returns-2 : tie.Need-returns-2
 unfolding resetting
-returns-2 c = rw (c .answered .ensures, c .before .fresh-function .ensures, c .before .before .rcb-of .ensures) (end-take _ _ _ _ _ _ (le-leb _ _ (c .before .before .before .before .before .if1 .left)) (end-take _ _ _ _ _ _ (sym (c .before .before .before .before .is-rcb .ensures) ∙ c .before .before .before .if2 .taken) refl))
+returns-2 c = rw (c .answered .ensures, c .before .fresh-function .ensures, c .before .before .rcb-of .ensures) (commit-take _ _ _ _ _ _ (le-leb _ _ (c .before .before .before .before .before .if1 .left)) (commit-take _ _ _ _ _ _ (sym (c .before .before .before .before .is-rcb .ensures) ∙ c .before .before .before .if2 .taken) refl))
 
 returns-3 : tie.Need-returns-3
 unfolding resetting
-returns-3 c = rw (c .refused2 .ensures) (end-take _ _ _ _ _ _ (le-leb _ _ (c .before .before .before .if1 .left)) (end-skip _ _ _ _ _ _ (sym (c .before .before .is-rcb .ensures) ∙ c .before .if2 .left) refl))
+returns-3 c = rw (c .refused2 .ensures) (commit-take _ _ _ _ _ _ (le-leb _ _ (c .before .before .before .if1 .left)) (commit-skip _ _ _ _ _ _ (sym (c .before .before .is-rcb .ensures) ∙ c .before .if2 .left) refl))
 
 pub reset-spec : {M : Type 1} → statement M
 reset-spec =

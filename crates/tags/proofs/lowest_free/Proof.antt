@@ -3,18 +3,18 @@ use Prim.Native.Nat.{_+_, _-_, _≤_}
 use native.Mathlib.Omega.{arith}
 use lib.ListN.{length, drop}
 use borrow.Author.Tests.{lt-ltb, le-ltb}
-use Rattle.lemmas.specs.First.{firstAt}
+use Rattle.lemmas.specs.First.{firstIndex}
 use Rattle.lemmas.proofs.First.{first-start, first-step, first-here, first-end}
-use Rattle.tags.specs.Tags.{freeAt, freeTag}
+use Rattle.tags.specs.Tags.{isFreeRow, freeTag}
 use borrow.Author.Needs.{needs}
 use Rattle.tags.proofs.lowest_free.Statement.{statement}
 use Rattle.tags.proofs.lowest_free.Tie as tie
 
 abbrev Inv-loop : tie.InvT-loop
-Inv-loop places i₀ i = (length places ≡ 32) × (i ≤ 32) × (firstAt freeAt places ≡ i + firstAt freeAt (drop i places))
+Inv-loop tags i₀ i = (length tags ≡ 32) × (i ≤ 32) × (firstIndex isFreeRow tags ≡ i + firstIndex isFreeRow (drop i tags))
 
 abbrev μ-loop : tie.MeasureT-loop
-μ-loop places i₀ i = 32 - i
+μ-loop tags i₀ i = 32 - i
 
 loop-holds : tie.Need-loop-holds Inv-loop μ-loop
 loop-holds c = (search needs, search needs, first-start _ _)
@@ -25,8 +25,8 @@ mul-p c = search needs
 array-copy-out-p : tie.Need-array-copy-out-p Inv-loop μ-loop
 array-copy-out-p c = search needs
 
-is-free-requires : tie.Need-is-free-requires Inv-loop μ-loop
-is-free-requires c κs = search needs
+is-free-state-requires : tie.Need-is-free-state-requires Inv-loop μ-loop
+is-free-state-requires c κs = search needs
 
 cast-t12 : tie.Need-cast-t12 Inv-loop μ-loop
 cast-t12 c = search needs
@@ -34,7 +34,7 @@ cast-t12 c = search needs
 returns : tie.Need-returns Inv-loop μ-loop
 unfolding freeTag
 returns c =
-    let here = first-here _ _ _ _ (omega arith) (sym (c .before .is-free .ensures) ∙ c .if1 .taken) (c .before .before .before .before .loop .inv .2) in
+    let here = first-here _ _ _ _ (omega arith) (sym (c .before .is-free-state .ensures) ∙ c .if1 .taken) (c .before .before .before .before .loop .inv .2) in
     let below = lt-ltb (c .before .before .before .before .loop .i) 32 (omega arith) in
     rw (← here, below)
 
@@ -46,7 +46,7 @@ loop-less c = search needs
 
 loop-again : tie.Need-loop-again Inv-loop μ-loop
 loop-again c = let inv = c .before .before .before .before .loop .inv in
-    (inv .0, search needs, first-step _ _ _ _ (omega arith) (sym (c .before .is-free .ensures) ∙ c .if1 .left) (inv .2))
+    (inv .0, search needs, first-step _ _ _ _ (omega arith) (sym (c .before .is-free-state .ensures) ∙ c .if1 .left) (inv .2))
 
 returns-2 : tie.Need-returns-2 Inv-loop μ-loop
 unfolding freeTag
@@ -64,7 +64,7 @@ lowest-free-spec =
     loop-holds
     mul-p
     array-copy-out-p
-    is-free-requires
+    is-free-state-requires
     cast-t12
     returns
     add-i

@@ -3,15 +3,15 @@ use borrow.Author.Needs.{needs}
 use Rattle.tlp.proofs.translation_at.Statement.{statement}
 use Rattle.tlp.proofs.translation_at.Tie as tie
 
-word-requires : tie.Need-word-requires
-word-requires c κs = search needs
+qword-requires : tie.Need-qword-requires
+qword-requires c κs = search needs
 
 translation-of-requires : tie.Need-translation-of-requires
 translation-of-requires c κs = search needs
 
 returns : tie.Need-returns
 unfolding translationAt
-returns c = rw (c .translation-of .ensures, c .before .word .ensures)
+returns c = rw (c .translation-of .ensures, c .before .qword .ensures)
 
 pub translation-at-spec : {M : Type 1} → statement M
-translation-at-spec = tie.close (tie.spec word-requires translation-of-requires returns)
+translation-at-spec = tie.close (tie.spec qword-requires translation-of-requires returns)

@@ -8,25 +8,25 @@ use Rattle.writer.proofs.put.Tie as tie
 form-of-requires : tie.Need-form-of-requires
 form-of-requires c κs = search needs
 
-fixed-requires : tie.Need-fixed-requires
-fixed-requires c κs = search needs
+payload-offset-requires : tie.Need-payload-offset-requires
+payload-offset-requires c κs = search needs
 
-frame-of-requires : tie.Need-frame-of-requires
-frame-of-requires c κs = search needs
+packet-frame-requires : tie.Need-packet-frame-requires
+packet-frame-requires c κs = search needs
 
-spell-requires : tie.Need-spell-requires
-spell-requires c κs = search needs
+encode-frame-requires : tie.Need-encode-frame-requires
+encode-frame-requires c κs = search needs
 
 array-share-prefix-front : tie.Need-array-share-prefix-front
 array-share-prefix-front c = search needs
 
 slice-aggregate-lay : tie.Need-slice-aggregate-lay
 slice-aggregate-lay c = let k = c .before .before .before in
-    sym (front-length (k .fixed .result) (c .before .spell .result) (c .before .before .frame-of .result) (c .before .spell .ensures) (k .fixed .ensures .1))
+    sym (front-length (k .payload-offset .result) (c .before .encode-frame .result) (c .before .before .packet-frame .result) (c .before .encode-frame .ensures) (k .payload-offset .ensures .1))
 
 lay-requires : tie.Need-lay-requires
 lay-requires c κs = let k = c .before .before .before .before in
-    rw (front-length (k .fixed .result) (c .before .before .spell .result) (c .before .before .before .frame-of .result) (c .before .before .spell .ensures) (k .fixed .ensures .1), k .fixed .ensures .0, k .before .form-of .ensures) (k .before .before .before .before .before .pre)
+    rw (front-length (k .payload-offset .result) (c .before .before .encode-frame .result) (c .before .before .before .packet-frame .result) (c .before .before .encode-frame .ensures) (k .payload-offset .ensures .1), k .payload-offset .ensures .0, k .before .form-of .ensures) (k .before .before .before .before .before .pre)
 
 same-length : tie.Need-same-length
 same-length c = search needs
@@ -34,16 +34,16 @@ same-length c = search needs
 returns : tie.Need-returns
 unfolding bytesOf
 returns c = let k = c .before .before .before .before .before in
-    rw (← k .before .before .before .form-of .ensures, ← k .before .before .fixed .ensures .0, ← k .before .frame-of .ensures, ← k .spell .ensures) (c .before .before .lay .ensures)
+    rw (← k .before .before .before .form-of .ensures, ← k .before .before .payload-offset .ensures .0, ← k .before .packet-frame .ensures, ← k .encode-frame .ensures) (c .before .before .lay .ensures)
 
 pub put-spec : {M : Type 1} → statement M
 put-spec =
     tie.close
     (tie.spec
     form-of-requires
-    fixed-requires
-    frame-of-requires
-    spell-requires
+    payload-offset-requires
+    packet-frame-requires
+    encode-frame-requires
     array-share-prefix-front
     slice-aggregate-lay
     lay-requires

@@ -1,6 +1,6 @@
 use mathlib.Core.Path.{sym, _∙_, ap}
 use Rattle.packet.proofs.Laws.{accepted}
-use Rattle.packet.specs.Writing.{paperWritten}
+use Rattle.packet.specs.Writing.{writeResult}
 use borrow.Author.Needs.{needs}
 use Rattle.writer.proofs.write_packet.Statement.{statement}
 use Rattle.writer.proofs.write_packet.Tie as tie
@@ -13,7 +13,7 @@ enum-known-n c = search needs
 
 put-requires : tie.Need-put-requires
 put-requires c κs = let k = c .before .before .before .before in
-    let e = sym (ap paperWritten (c .before .before .n .given .1)) ∙ k .answer .ensures in
+    let e = sym (ap writeResult (c .before .before .n .given .1)) ∙ k .answer .ensures in
     let a = accepted _ _ _ _ (sym e) in
     rw (a .long) (a .fits)
 

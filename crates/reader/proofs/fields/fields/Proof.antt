@@ -6,20 +6,20 @@ use Rattle.reader.proofs.fields.fields.Tie as tie
 enum-told : tie.Need-enum-told
 enum-told c = search needs
 
-cast-fetch : tie.Need-cast-fetch
-cast-fetch c = search needs
+cast-read-request : tie.Need-cast-read-request
+cast-read-request c = search needs
 
-fetch-requires : tie.Need-fetch-requires
-fetch-requires c κs = search needs
+read-request-requires : tie.Need-read-request-requires
+read-request-requires c κs = search needs
 
 enum-told-2 : tie.Need-enum-told-2
 enum-told-2 c = search needs
 
-long-requires : tie.Need-long-requires
-long-requires c κs = search needs
+address64-requires : tie.Need-address64-requires
+address64-requires c κs = search needs
 
-fetch-requires-2 : tie.Need-fetch-requires-2
-fetch-requires-2 c κs = search needs
+read-request-requires-2 : tie.Need-read-request-requires-2
+read-request-requires-2 c κs = search needs
 
 enum-told-3 : tie.Need-enum-told-3
 enum-told-3 c = search needs
@@ -33,8 +33,8 @@ mem-requires c κs = search needs
 enum-told-4 : tie.Need-enum-told-4
 enum-told-4 c = search needs
 
-long-requires-2 : tie.Need-long-requires-2
-long-requires-2 c κs = search needs
+address64-requires-2 : tie.Need-address64-requires-2
+address64-requires-2 c κs = search needs
 
 mem-requires-2 : tie.Need-mem-requires-2
 mem-requires-2 c κs = search needs
@@ -66,8 +66,8 @@ ic-requires c κs = search needs
 enum-told-9 : tie.Need-enum-told-9
 enum-told-9 c = search needs
 
-long-requires-3 : tie.Need-long-requires-3
-long-requires-3 c κs = search needs
+address64-requires-3 : tie.Need-address64-requires-3
+address64-requires-3 c κs = search needs
 
 prq-requires : tie.Need-prq-requires
 prq-requires c κs = search needs
@@ -80,11 +80,11 @@ prs-requires c κs = search needs
 
 returns : tie.Need-returns
 unfolding bodyIn
-returns c = rw (c .before .before .enum-told .given .1) (c .fetch .ensures)
+returns c = rw (c .before .before .enum-told .given .1) (c .read-request .ensures)
 
 returns-2 : tie.Need-returns-2
 unfolding bodyIn
-returns-2 c = rw (c .before .before .enum-told2 .given .1, ← c .before .long .ensures) (c .fetch2 .ensures)
+returns-2 c = rw (c .before .before .enum-told2 .given .1, ← c .before .address64 .ensures) (c .read-request2 .ensures)
 
 returns-3 : tie.Need-returns-3
 unfolding bodyIn
@@ -92,7 +92,7 @@ returns-3 c = rw (c .before .before .enum-told3 .given .1) (c .mem .ensures)
 
 returns-4 : tie.Need-returns-4
 unfolding bodyIn
-returns-4 c = rw (c .before .before .enum-told4 .given .1, ← c .before .long2 .ensures) (c .mem2 .ensures)
+returns-4 c = rw (c .before .before .enum-told4 .given .1, ← c .before .address642 .ensures) (c .mem2 .ensures)
 
 returns-5 : tie.Need-returns-5
 unfolding bodyIn
@@ -112,7 +112,7 @@ returns-8 c = rw (c .before .enum-told8 .given .1) (c .ic .ensures)
 
 returns-9 : tie.Need-returns-9
 unfolding bodyIn
-returns-9 c = rw (c .before .before .enum-told9 .given .1, ← c .before .long3 .ensures) (c .prq .ensures)
+returns-9 c = rw (c .before .before .enum-told9 .given .1, ← c .before .address643 .ensures) (c .prq .ensures)
 
 returns-10 : tie.Need-returns-10
 unfolding bodyIn
@@ -123,16 +123,16 @@ fields-spec =
     tie.close
     (tie.spec
     enum-told
-    cast-fetch
-    fetch-requires
+    cast-read-request
+    read-request-requires
     enum-told-2
-    long-requires
-    fetch-requires-2
+    address64-requires
+    read-request-requires-2
     enum-told-3
     cast-mem
     mem-requires
     enum-told-4
-    long-requires-2
+    address64-requires-2
     mem-requires-2
     enum-told-5
     cpl-requires
@@ -143,7 +143,7 @@ fields-spec =
     enum-told-8
     ic-requires
     enum-told-9
-    long-requires-3
+    address64-requires-3
     prq-requires
     enum-told-10
     prs-requires

@@ -11,8 +11,8 @@ enum-told-2 c = search needs
 enum-told-3 : tie.Need-enum-told-3
 enum-told-3 c = search needs
 
-dwords-requires : tie.Need-dwords-requires
-dwords-requires c κs = search needs
+dword-count-requires : tie.Need-dword-count-requires
+dword-count-requires c κs = search needs
 
 mul-result : tie.Need-mul-result
 mul-result c = search needs
@@ -23,8 +23,8 @@ add-result c = search needs
 enum-told-4 : tie.Need-enum-told-4
 enum-told-4 c = search needs
 
-dwords-requires-2 : tie.Need-dwords-requires-2
-dwords-requires-2 c κs = search needs
+dword-count-requires-2 : tie.Need-dword-count-requires-2
+dword-count-requires-2 c κs = search needs
 
 mul-result-2 : tie.Need-mul-result-2
 mul-result-2 c = search needs
@@ -38,8 +38,8 @@ enum-told-5 c = search needs
 enum-told-6 : tie.Need-enum-told-6
 enum-told-6 c = search needs
 
-dwords-requires-3 : tie.Need-dwords-requires-3
-dwords-requires-3 c κs = search needs
+dword-count-requires-3 : tie.Need-dword-count-requires-3
+dword-count-requires-3 c κs = search needs
 
 mul-result-3 : tie.Need-mul-result-3
 mul-result-3 c = search needs
@@ -50,8 +50,8 @@ add-result-3 c = search needs
 enum-told-7 : tie.Need-enum-told-7
 enum-told-7 c = search needs
 
-dwords-requires-4 : tie.Need-dwords-requires-4
-dwords-requires-4 c κs = search needs
+dword-count-requires-4 : tie.Need-dword-count-requires-4
+dword-count-requires-4 c κs = search needs
 
 mul-result-4 : tie.Need-mul-result-4
 mul-result-4 c = search needs
@@ -75,19 +75,19 @@ returns-2 : tie.Need-returns-2
 returns-2 c = rw (c .enum-told2 .given .1)
 
 returns-3 : tie.Need-returns-3
-returns-3 c = rw (c .before .enum-told3 .given .1, c .dwords .ensures .0)
+returns-3 c = rw (c .before .enum-told3 .given .1, c .dword-count .ensures .0)
 
 returns-4 : tie.Need-returns-4
-returns-4 c = rw (c .before .enum-told4 .given .1, c .dwords2 .ensures .0)
+returns-4 c = rw (c .before .enum-told4 .given .1, c .dword-count2 .ensures .0)
 
 returns-5 : tie.Need-returns-5
 returns-5 c = rw (c .enum-told5 .given .1)
 
 returns-6 : tie.Need-returns-6
-returns-6 c = rw (c .before .enum-told6 .given .1, c .dwords3 .ensures .0)
+returns-6 c = rw (c .before .enum-told6 .given .1, c .dword-count3 .ensures .0)
 
 returns-7 : tie.Need-returns-7
-returns-7 c = rw (c .before .enum-told7 .given .1, c .dwords4 .ensures .0)
+returns-7 c = rw (c .before .enum-told7 .given .1, c .dword-count4 .ensures .0)
 
 returns-8 : tie.Need-returns-8
 returns-8 c = rw (c .enum-told8 .given .1)
@@ -105,20 +105,20 @@ length-of-spec =
     enum-told
     enum-told-2
     enum-told-3
-    dwords-requires
+    dword-count-requires
     mul-result
     add-result
     enum-told-4
-    dwords-requires-2
+    dword-count-requires-2
     mul-result-2
     add-result-2
     enum-told-5
     enum-told-6
-    dwords-requires-3
+    dword-count-requires-3
     mul-result-3
     add-result-3
     enum-told-7
-    dwords-requires-4
+    dword-count-requires-4
     mul-result-4
     add-result-4
     enum-told-8

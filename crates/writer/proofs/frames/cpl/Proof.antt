@@ -1,4 +1,4 @@
-use Rattle.packet.specs.Kinds.{framed, formOf}
+use Rattle.packet.specs.Kinds.{packetFrame, formOf}
 use borrow.Author.Needs.{needs}
 use Rattle.writer.proofs.frames.cpl.Statement.{statement}
 use Rattle.writer.proofs.frames.cpl.Tie as tie
@@ -6,11 +6,11 @@ use Rattle.writer.proofs.frames.cpl.Tie as tie
 outcome-form-requires : tie.Need-outcome-form-requires
 outcome-form-requires c κs = search needs
 
-first-requires : tie.Need-first-requires
-first-requires c κs = search needs
+byte0-requires : tie.Need-byte0-requires
+byte0-requires c κs = search needs
 
-outcome-words-requires : tie.Need-outcome-words-requires
-outcome-words-requires c κs = search needs
+outcome-dwords-requires : tie.Need-outcome-dwords-requires
+outcome-dwords-requires c κs = search needs
 
 outcome-status-requires : tie.Need-outcome-status-requires
 outcome-status-requires c κs = search needs
@@ -49,16 +49,16 @@ add-t22 : tie.Need-add-t22
 add-t22 c = search needs
 
 returns : tie.Need-returns
-unfolding framed formOf
-returns c = simp (c .before .before .before .before .before .outcome-status .ensures, c .before .before .before .before .before .before .outcome-words .ensures, c .before .before .before .before .before .before .before .first .ensures, c .before .before .before .before .before .before .before .before .outcome-form .ensures)
+unfolding packetFrame formOf
+returns c = simp (c .before .before .before .before .before .outcome-status .ensures, c .before .before .before .before .before .before .outcome-dwords .ensures, c .before .before .before .before .before .before .before .byte0 .ensures, c .before .before .before .before .before .before .before .before .outcome-form .ensures)
 
 pub cpl-spec : {M : Type 1} → statement M
 cpl-spec =
     tie.close
     (tie.spec
     outcome-form-requires
-    first-requires
-    outcome-words-requires
+    byte0-requires
+    outcome-dwords-requires
     outcome-status-requires
     mul-t9
     cast-t12

@@ -6,8 +6,8 @@ use Rattle.writer.proofs.frames.form_of.Tie as tie
 enum-known-body : tie.Need-enum-known-body
 enum-known-body c = search needs
 
-fetch-form-requires : tie.Need-fetch-form-requires
-fetch-form-requires c κs = search needs
+read-form-requires : tie.Need-read-form-requires
+read-form-requires c κs = search needs
 
 enum-known-body-2 : tie.Need-enum-known-body-2
 enum-known-body-2 c = search needs
@@ -35,7 +35,7 @@ enum-told-4 c = search needs
 
 returns : tie.Need-returns
 unfolding formOf
-returns c = rw (c .before .before .body .given .1) (c .fetch-form .ensures)
+returns c = rw (c .before .before .body .given .1) (c .read-form .ensures)
 
 returns-2 : tie.Need-returns-2
 unfolding formOf
@@ -66,7 +66,7 @@ form-of-spec =
     tie.close
     (tie.spec
     enum-known-body
-    fetch-form-requires
+    read-form-requires
     enum-known-body-2
     access-form-requires
     enum-known-body-3

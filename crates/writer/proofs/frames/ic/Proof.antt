@@ -1,4 +1,4 @@
-use Rattle.packet.specs.Kinds.{framed}
+use Rattle.packet.specs.Kinds.{packetFrame}
 use mathlib.Core.Path.{refl}
 use borrow.Author.Needs.{needs}
 use Rattle.writer.proofs.frames.ic.Statement.{statement}
@@ -17,7 +17,7 @@ add-t6 : tie.Need-add-t6
 add-t6 c = search needs
 
 returns : tie.Need-returns
-unfolding framed
+unfolding packetFrame
 returns c = refl
 
 pub ic-spec : {M : Type 1} → statement M

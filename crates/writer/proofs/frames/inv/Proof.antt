@@ -1,4 +1,4 @@
-use Rattle.packet.specs.Kinds.{framed}
+use Rattle.packet.specs.Kinds.{packetFrame}
 use borrow.Author.Needs.{needs}
 use Rattle.writer.proofs.frames.inv.Statement.{statement}
 use Rattle.writer.proofs.frames.inv.Tie as tie
@@ -25,7 +25,7 @@ add-t10 : tie.Need-add-t10
 add-t10 c = search needs
 
 returns : tie.Need-returns
-unfolding framed
+unfolding packetFrame
 returns c = simp (c .bit .ensures .0)
 
 pub inv-spec : {M : Type 1} → statement M

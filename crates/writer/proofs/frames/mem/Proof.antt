@@ -1,4 +1,4 @@
-use Rattle.packet.specs.Kinds.{framed, formOf}
+use Rattle.packet.specs.Kinds.{packetFrame, formOf}
 use borrow.Author.Needs.{needs}
 use Rattle.writer.proofs.frames.mem.Statement.{statement}
 use Rattle.writer.proofs.frames.mem.Tie as tie
@@ -6,8 +6,8 @@ use Rattle.writer.proofs.frames.mem.Tie as tie
 access-form-requires : tie.Need-access-form-requires
 access-form-requires c κs = search needs
 
-first-requires : tie.Need-first-requires
-first-requires c κs = search needs
+byte0-requires : tie.Need-byte0-requires
+byte0-requires c κs = search needs
 
 bit-requires : tie.Need-bit-requires
 bit-requires c κs = search needs
@@ -18,29 +18,29 @@ mul-t7 c = search needs
 access-tag-requires : tie.Need-access-tag-requires
 access-tag-requires c κs = search needs
 
-enables-requires : tie.Need-enables-requires
-enables-requires c κs = search needs
+byte-enables-requires : tie.Need-byte-enables-requires
+byte-enables-requires c κs = search needs
 
-upper-requires : tie.Need-upper-requires
-upper-requires c κs = search needs
+address-dword8-requires : tie.Need-address-dword8-requires
+address-dword8-requires c κs = search needs
 
-lower-requires : tie.Need-lower-requires
-lower-requires c κs = search needs
+address-dword12-requires : tie.Need-address-dword12-requires
+address-dword12-requires c κs = search needs
 
 returns : tie.Need-returns
-unfolding framed formOf
-returns c = simp (c .lower .ensures, c .before .upper .ensures, c .before .before .enables .ensures, c .before .before .before .access-tag .ensures, c .before .before .before .before .bit .ensures .0, c .before .before .before .before .before .first .ensures, c .before .before .before .before .before .before .access-form .ensures)
+unfolding packetFrame formOf
+returns c = simp (c .address-dword12 .ensures, c .before .address-dword8 .ensures, c .before .before .byte-enables .ensures, c .before .before .before .access-tag .ensures, c .before .before .before .before .bit .ensures .0, c .before .before .before .before .before .byte0 .ensures, c .before .before .before .before .before .before .access-form .ensures)
 
 pub mem-spec : {M : Type 1} → statement M
 mem-spec =
     tie.close
     (tie.spec
     access-form-requires
-    first-requires
+    byte0-requires
     bit-requires
     mul-t7
     access-tag-requires
-    enables-requires
-    upper-requires
-    lower-requires
+    byte-enables-requires
+    address-dword8-requires
+    address-dword12-requires
     returns)

@@ -1,4 +1,4 @@
-use Rattle.packet.specs.Kinds.{framed}
+use Rattle.packet.specs.Kinds.{packetFrame}
 use borrow.Author.Needs.{needs}
 use Rattle.writer.proofs.frames.prq.Statement.{statement}
 use Rattle.writer.proofs.frames.prq.Tie as tie
@@ -55,7 +55,7 @@ cast-t21 : tie.Need-cast-t21
 cast-t21 c = search needs
 
 returns : tie.Need-returns
-unfolding framed
+unfolding packetFrame
 returns c = simp (c .bit3 .ensures .0, c .before .bit2 .ensures .0, c .before .before .bit .ensures .0)
 
 pub prq-spec : {M : Type 1} → statement M

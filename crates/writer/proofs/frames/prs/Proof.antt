@@ -1,4 +1,4 @@
-use Rattle.packet.specs.Kinds.{framed}
+use Rattle.packet.specs.Kinds.{packetFrame}
 use mathlib.Core.Path.{refl}
 use borrow.Author.Needs.{needs}
 use Rattle.writer.proofs.frames.prs.Statement.{statement}
@@ -26,7 +26,7 @@ add-t11 : tie.Need-add-t11
 add-t11 c = search needs
 
 returns : tie.Need-returns
-unfolding framed
+unfolding packetFrame
 returns c = refl
 
 pub prs-spec : {M : Type 1} → statement M

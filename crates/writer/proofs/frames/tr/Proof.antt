@@ -1,4 +1,4 @@
-use Rattle.packet.specs.Kinds.{framed, formOf}
+use Rattle.packet.specs.Kinds.{packetFrame, formOf}
 use borrow.Author.Needs.{needs}
 use Rattle.writer.proofs.frames.tr.Statement.{statement}
 use Rattle.writer.proofs.frames.tr.Tie as tie
@@ -15,21 +15,21 @@ cast-a c = search needs
 add-a : tie.Need-add-a
 add-a c = search needs
 
-fetch-form-requires : tie.Need-fetch-form-requires
-fetch-form-requires c κs = search needs
+read-form-requires : tie.Need-read-form-requires
+read-form-requires c κs = search needs
 
-first-requires : tie.Need-first-requires
-first-requires c κs = search needs
+byte0-requires : tie.Need-byte0-requires
+byte0-requires c κs = search needs
 
-upper-requires : tie.Need-upper-requires
-upper-requires c κs = search needs
+address-dword8-requires : tie.Need-address-dword8-requires
+address-dword8-requires c κs = search needs
 
-lower-requires : tie.Need-lower-requires
-lower-requires c κs = search needs
+address-dword12-requires : tie.Need-address-dword12-requires
+address-dword12-requires c κs = search needs
 
 returns : tie.Need-returns
-unfolding framed formOf
-returns c = simp (c .lower .ensures, c .before .upper .ensures, c .before .before .first .ensures, c .before .before .before .fetch-form .ensures, c .before .before .before .before .bit .ensures .0)
+unfolding packetFrame formOf
+returns c = simp (c .address-dword12 .ensures, c .before .address-dword8 .ensures, c .before .before .byte0 .ensures, c .before .before .before .read-form .ensures, c .before .before .before .before .bit .ensures .0)
 
 pub tr-spec : {M : Type 1} → statement M
 tr-spec =
@@ -39,8 +39,8 @@ tr-spec =
     bit-requires
     cast-a
     add-a
-    fetch-form-requires
-    first-requires
-    upper-requires
-    lower-requires
+    read-form-requires
+    byte0-requires
+    address-dword8-requires
+    address-dword12-requires
     returns)

@@ -1,0 +1,67 @@
+use Rattle.state.proofs.Commits.{commit-sent, commit-unsent}
+use borrow.Author.Needs.{needs}
+use Rattle.call_ask.proofs.ask_with_tag.Statement.{statement}
+use Rattle.call_ask.proofs.ask_with_tag.Tie as tie
+
+translation-request-packet-requires : tie.Need-translation-request-packet-requires
+translation-request-packet-requires c κs = search needs
+
+slice-aggregate-write-packet : tie.Need-slice-aggregate-write-packet
+slice-aggregate-write-packet c = search needs
+
+write-packet-requires : tie.Need-write-packet-requires
+write-packet-requires c κs = search needs
+
+enum-known-n : tie.Need-enum-known-n
+enum-known-n c = search needs
+
+further-requires : tie.Need-further-requires
+further-requires c κs = search needs
+
+new-translation-requires : tie.Need-new-translation-requires
+new-translation-requires c κs = search needs
+
+with-tag-requires : tie.Need-with-tag-requires
+with-tag-requires c κs = search needs
+
+enum-known-r : tie.Need-enum-known-r
+enum-known-r c = search needs
+
+refused-requires : tie.Need-refused-requires
+refused-requires c κs = search needs
+
+same-length : tie.Need-same-length
+same-length c = search needs
+
+returns : tie.Need-returns
+returns c = let k = c .before .before .before .before .before .before .before .before in
+    let p = k .before .before .before .translation-request-packet .ensures in
+    let e = rw (c .before .before .before .before .n .given .1, p) at (k .write-packet .ensures .0) in
+    rw (c .with-tag .ensures, c .before .new-translation .ensures, c .before .before .further .ensures) (commit-sent _ _ _ _ _ _ _ (rw p at (k .write-packet .ensures .1)) _ e)
+
+same-length-2 : tie.Need-same-length-2
+same-length-2 c = search needs
+
+returns-2 : tie.Need-returns-2
+returns-2 c = let k = c .before .before .before .before .before .before in
+    let p = k .before .before .before .translation-request-packet .ensures in
+    let e = rw (c .before .before .r .given .1, p) at (k .write-packet .ensures .0) in
+    rw (c .refused .ensures) (commit-unsent _ _ _ _ _ _ _ (rw p at (k .write-packet .ensures .1)) _ e)
+
+pub ask-with-tag-spec : {M : Type 1} → statement M
+ask-with-tag-spec =
+    tie.close
+    (tie.spec
+    translation-request-packet-requires
+    slice-aggregate-write-packet
+    write-packet-requires
+    enum-known-n
+    further-requires
+    new-translation-requires
+    with-tag-requires
+    enum-known-r
+    refused-requires
+    same-length
+    returns
+    same-length-2
+    returns-2)

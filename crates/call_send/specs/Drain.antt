@@ -1,0 +1,42 @@
+-- Drain. 01, "Drain".
+use mathlib.Core.Bool.{cond}
+use mathlib.Core.List.{List, []}
+use Prim.Native.Nat.{ℕ}
+use lib.Count.{ones}
+use lib.Dec.{eqb}
+use Rattle.packet.specs.declared.Packet.{Packet}
+use Rattle.packet.specs.declared.Body.the-variants.{Ic}
+use Rattle.packet.specs.Numbers.{Result}
+use Rattle.tags.specs.Itags.{without}
+use Rattle.tags.specs.Tags.{delayedItags}
+use Rattle.state.specs.declared.Agent.{Agent}
+use Rattle.state.specs.declared.Agent.the-variants.{Unknown, Known}
+use Rattle.state.specs.declared.Function.{Function}
+use Rattle.state.specs.State.{withWaiting, headOf}
+use Rattle.state.specs.Answers.{Success, carries, sendsNothing, sends}
+
+-- no ITag waits before an agent is known
+abbrev pub agentId : Agent → ℕ
+agentId Unknown = 0
+agentId (Known id) = id
+
+-- one Invalidate Completion to the agent, on one Traffic Class of one
+abbrev pub invalidateCompletionPacket : ℕ → Agent → ℕ → Packet
+invalidateCompletionPacket id agent v =
+    record {
+      head = headOf id;
+      body = Ic (record { device = agentId agent; cc = 1; vector = v });
+    }
+
+-- the ITags that wait and that no open read delays
+abbrev pub readyOf : Function → ℕ
+readyOf f = without (f .waiting) (delayedItags (f .tags))
+
+-- a completion for a vector of ITags, which wait no longer; it says how many they are
+unfoldable pub sendsVector : Function → ℕ → List ℕ → Result Success
+sendsVector f v out =
+    cond (eqb v 0) (sendsNothing f (carries 0))
+    (sends (withWaiting f (without (f .waiting) v)) (carries (ones v)) (invalidateCompletionPacket (f .id) (f .agent) v) [] out)
+
+abbrev pub draining : Function → List ℕ → Result Success
+draining f out = sendsVector f (readyOf f) out

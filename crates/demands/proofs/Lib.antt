@@ -1,0 +1,11 @@
+pub mod Views
+pub mod Tags
+pub mod Marks
+pub mod Sends
+pub mod Drains
+pub mod Invalidates
+pub mod Completions
+pub mod Receives
+pub mod Order
+pub mod Nine
+pub mod Proved

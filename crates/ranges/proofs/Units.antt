@@ -1,0 +1,108 @@
+-- Laws of runs of units and of places moved from region to region.
+use mathlib.Core.Path.{_≡_, refl, sym, ap, _∙_}
+use mathlib.Core.Bool.{true, _&&_}
+use Prim.Native.Nat.{ℕ, _+_, _-_, _*_, _/_, _%_, _^_, _<_, _≤_, min}
+use native.Mathlib.Nat.{mul-le-mul-right, add-mul, one-mul, le-trans, min-eq-left, min-le-right, le-min, div-mul-le-self, lt-div-mul-add, le-div-iff-mul-le, mul-assoc, div-add-mod', mul-add-mod-self-right}
+use native.Mathlib.Omega.{arith}
+use lib.Pow.{pow-pos, pow-add, mod-mod-pow, shr-shr, shl-shr}
+use lib.Dec.{leb}
+use borrow.Author.Tests.{le-leb}
+use Rattle.lemmas.proofs.Powers.{region-lt}
+use Rattle.lemmas.proofs.Tests.{same-leb}
+use Rattle.ranges.specs.Range.{regionOf, rangeFrom, unitsFrom, unitExponent, unitBytes, unitCount, relocated, isWithin}
+
+-- the region that holds a byte begins no later,
+pub region-first : (a e : ℕ) → regionOf a e .first ≤ a
+unfolding regionOf
+region-first a e = div-mul-le-self a (2 ^ min e 64)
+
+-- and what an address is past that beginning leaves every other region inside the address space
+pub relocated-lt : (base a e : ℕ) → base < 2 ^ 64 → relocated base a e < 2 ^ 64
+unfolding relocated regionOf
+relocated-lt base a e h =
+    let k = min e 64 in
+    omega (arith, region-lt 64 k base h (min-le-right e 64), lt-div-mul-add {a = a} {b = 2 ^ k} (pow-pos k), div-mul-le-self a (2 ^ k))
+
+offset-low : (m x a k : ℕ) → k ≤ m → (x * 2 ^ m + (a - a / 2 ^ m * 2 ^ m)) % 2 ^ k ≡ a % 2 ^ k
+offset-low m x a k h =
+    let j = m - k in
+    let same : j + k ≡ m = omega arith in
+    let rest : a - a / 2 ^ m * 2 ^ m ≡ a % 2 ^ m = omega (arith, div-add-mod' a (2 ^ m)) in
+    let first : x * 2 ^ m ≡ x * 2 ^ j * 2 ^ k = ap (λ (n : ℕ). x * 2 ^ n) (sym same) ∙ rw (pow-add 2 j k) (sym (mul-assoc x (2 ^ j) (2 ^ k))) in
+    rw (rest, first, mul-add-mod-self-right (x * 2 ^ j) (2 ^ k) (a % 2 ^ m), ← same) (mod-mod-pow a j k)
+
+-- and it keeps the bits of the address below any size that the region has
+pub relocated-low : (base a e k : ℕ) → k ≤ e → k ≤ 64 → relocated base a e % 2 ^ k ≡ a % 2 ^ k
+unfolding relocated regionOf
+relocated-low base a e k h g = offset-low (min e 64) (base / 2 ^ min e 64) a k (le-min h g)
+
+-- the units of a request are few
+pub units-fit : (further unit : ℕ) → unit ≤ 0x800_0000_0000 → (unitCount further * unit ≤ 0x8000_0000_0000) × (unit ≤ unitCount further * unit)
+units-fit further unit h =
+    let few : unitCount further ≤ 16 = omega arith in
+    let one : 1 ≤ unitCount further = omega arith in
+    (omega (arith, mul-le-mul-right unit few), omega (arith, mul-le-mul-right unit one))
+
+-- a reach ends no sooner than it begins, and inside the address space
+pub rangeFrom-ends : (first rest : ℕ) → first < 2 ^ 64 → (first ≤ rangeFrom first rest .last) × (rangeFrom first rest .last < 2 ^ 64)
+unfolding rangeFrom
+rangeFrom-ends first rest h = (le-min (omega arith) (omega arith), omega (arith, min-le-right (first + rest) (2 ^ 64 - 1)))
+
+-- region n begins at or before a byte exactly where it is no later than the byte's own region
+pub region-leb : (n e x : ℕ) → leb (n * 2 ^ e) x ≡ leb n (x / 2 ^ e)
+region-leb n e x =
+    let iff = le-div-iff-mul-le {k = 2 ^ e} {x = n} {y = x} (pow-pos e) in
+    same-leb (n * 2 ^ e) x n (x / 2 ^ e) (λ l. iff .1 l) (λ l. iff .0 l)
+
+-- a later byte lies in no earlier region
+pub region-monotone : (a b e : ℕ) → a ≤ b → a / 2 ^ e ≤ b / 2 ^ e
+region-monotone a b e h = le-div-iff-mul-le {k = 2 ^ e} {x = a / 2 ^ e} {y = b} (pow-pos e) .1 (le-trans (div-mul-le-self a (2 ^ e)) h)
+
+-- where the units of a request lie: none is far from the first
+pub offset-fits : (j unit : ℕ) → j ≤ 15 → unit ≤ 0x800_0000_0000 → j * unit ≤ 0x8000_0000_0000
+offset-fits j unit h k = omega (arith, mul-le-mul-right unit h)
+
+-- a 16-bit number of units fits, and is no less than a byte where there is a unit
+pub many-fit : (n unit : ℕ) → n < 2 ^ 16 → unit ≤ 0x800_0000_0000 → n * unit < 2 ^ 64
+many-fit n unit h k =
+    let few : n ≤ 65535 = omega arith in
+    omega (arith, mul-le-mul-right unit few)
+
+pub some-bytes : (n unit : ℕ) → 1 ≤ n → 1 ≤ unit → 1 ≤ n * unit
+some-bytes n unit h k = omega (arith, mul-le-mul-right unit h)
+
+-- a region begins inside the address space
+pub region-lt-top : (a e : ℕ) → a < 2 ^ 64 → regionOf a e .first < 2 ^ 64
+region-lt-top a e h = omega (arith, region-first a e)
+
+-- ---- the units of a run
+
+-- a run begins with the unit of its address,
+pub unitsFrom-first : (a further stu : ℕ) → unitsFrom a further stu .first ≡ regionOf a (unitExponent stu) .first
+unfolding unitsFrom rangeFrom
+unitsFrom-first a further stu = refl
+
+-- for which the bits of the address below 4096 do not count
+pub unitsFrom-low-bits : (a further stu : ℕ) → unitsFrom (a / 4096 * 4096) further stu ≡ unitsFrom a further stu
+unfolding unitsFrom regionOf
+unitsFrom-low-bits a further stu = rw (min-eq-left {n = 12 + stu % 32} {m = 64} (omega arith), ← shr-shr (a / 4096 * 4096) 12 (stu % 32), shl-shr (a / 4096) 12, shr-shr a 12 (stu % 32))
+
+step-le : (j n U : ℕ) → j < n → j * U + U ≤ n * U
+step-le j n U h = let most : (j + 1) * U ≤ n * U = mul-le-mul-right {m = j + 1} {n = n} U (omega arith) in rw (add-mul j 1 U, one-mul U) at most
+
+-- and each of its units that begins in it lies in it
+pub unitsFrom-holds : (a further stu j : ℕ) → j < unitCount further → regionOf a (unitExponent stu) .first + j * unitBytes stu ≤ unitsFrom a further stu .last
+    → isWithin (regionOf (regionOf a (unitExponent stu) .first + j * unitBytes stu) (unitExponent stu)) (unitsFrom a further stu) ≡ true
+unfolding regionOf unitsFrom rangeFrom
+unitsFrom-holds a further stu j among inside =
+    rw (min-eq-left {n = 12 + stu % 32} {m = 64} (omega arith)) (within (12 + stu % 32) (a / 2 ^ (12 + stu % 32)) (unitCount further) (omega arith) among (rw (min-eq-left {n = 12 + stu % 32} {m = 64} (omega arith)) at inside))
+  where
+    within : (e n m : ℕ) → e ≤ 64 → j < m → n * 2 ^ e + j * 2 ^ e ≤ min (n * 2 ^ e + (m * 2 ^ e - 1)) (2 ^ 64 - 1)
+        → (leb (n * 2 ^ e) ((n * 2 ^ e + j * 2 ^ e) / 2 ^ e * 2 ^ e) && leb ((n * 2 ^ e + j * 2 ^ e) / 2 ^ e * 2 ^ e + (2 ^ e - 1)) (min (n * 2 ^ e + (m * 2 ^ e - 1)) (2 ^ 64 - 1))) ≡ true
+    within e n m small few h =
+        let x = n * 2 ^ e + j * 2 ^ e in
+        let own : x / 2 ^ e * 2 ^ e ≡ x = ap (λ (k : ℕ). k / 2 ^ e * 2 ^ e) (sym (add-mul n j (2 ^ e))) ∙ ap (λ (k : ℕ). k * 2 ^ e) (shl-shr (n + j) e) ∙ add-mul n j (2 ^ e) in
+        let low : x < 2 ^ 64 = omega (arith, h, min-le-right (n * 2 ^ e + (m * 2 ^ e - 1)) (2 ^ 64 - 1)) in
+        let top : x + (2 ^ e - 1) < 2 ^ 64 = rw own at (region-lt 64 e x low small) in
+        let most = step-le j m (2 ^ e) few in
+        rw (own, le-leb (n * 2 ^ e) x (omega arith)) (le-leb (x + (2 ^ e - 1)) (min (n * 2 ^ e + (m * 2 ^ e - 1)) (2 ^ 64 - 1)) (le-min (omega (arith, most)) (omega (arith, top))))

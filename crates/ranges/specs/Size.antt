@@ -1,0 +1,42 @@
+-- Sizes: the code that a translation and an Invalidate Request's body share. 01, "Sizes".
+use Prim.Native.Nat.{ℕ, zero, suc, _+_, _/_, _%_, _^_}
+use mathlib.Core.Bool.{Bool, cond}
+use lib.Dec.{ltb, eqb}
+use Rattle.ranges.specs.declared.Size.{Size}
+use Rattle.ranges.specs.declared.Size.the-variants.{Exponent, NoSize}
+use Rattle.ranges.specs.declared.Translation.{Translation}
+use Rattle.ranges.specs.Range.{regionOf}
+
+-- bit b of a number
+abbrev pub bit : ℕ → ℕ → Bool
+bit x b = eqb (x / 2 ^ b % 2) 1
+
+-- the lowest zero bit of the k bits from bit b on, and b + k where there is none
+unfoldable pub lowestZero : ℕ → ℕ → ℕ → ℕ
+lowestZero zero b x = b
+lowestZero (suc k) b x = cond (bit x b) (lowestZero k (b + 1) x) b
+
+-- where the lowest zero bit is b the size is 2 ^ (b + 1); where bits 63:12 are all ones there is none
+abbrev pub sizeAt : ℕ → Size
+sizeAt b = cond (ltb b 64) (Exponent (b + 1)) NoSize
+
+-- S clear is 2 ^ 12 bytes; S set, the lowest zero bit at or above 12 says the size
+unfoldable pub sizeOf : ℕ → Bool → Size
+sizeOf a s = cond s (sizeAt (lowestZero 52 12 a)) (Exponent 12)
+
+-- the address with the bits below its size cleared; where there is no size there is no base, and 0 stands for it
+abbrev pub baseOf : ℕ → Size → ℕ
+baseOf a (Exponent e) = regionOf a e .first
+baseOf a NoSize = 0
+
+-- a translation: S in bit 11, N in 10, U in 2, W in 1, R in 0
+unfoldable pub translationOf : ℕ → Translation
+translationOf x =
+    record {
+      base = baseOf x (sizeOf x (bit x 11));
+      size = sizeOf x (bit x 11);
+      n = bit x 10;
+      u = bit x 2;
+      w = bit x 1;
+      r = eqb (x % 2) 1;
+    }

@@ -1,0 +1,58 @@
+use Rattle.packet.specs.Frames.{decodeFrame}
+use borrow.Author.Needs.{needs}
+use Rattle.reader.proofs.decode_frame.Statement.{statement}
+use Rattle.reader.proofs.decode_frame.Tie as tie
+
+shared-slice-read-t3 : tie.Need-shared-slice-read-t3
+shared-slice-read-t3 c = search needs
+
+shared-slice-read-t5 : tie.Need-shared-slice-read-t5
+shared-slice-read-t5 c = search needs
+
+shared-slice-read-t9 : tie.Need-shared-slice-read-t9
+shared-slice-read-t9 c = search needs
+
+shared-slice-read-t12 : tie.Need-shared-slice-read-t12
+shared-slice-read-t12 c = search needs
+
+dwords-requires : tie.Need-dwords-requires
+dwords-requires c κs = search needs
+
+num16-requires : tie.Need-num16-requires
+num16-requires c κs = search needs
+
+shared-slice-read-t18 : tie.Need-shared-slice-read-t18
+shared-slice-read-t18 c = search needs
+
+shared-slice-read-t20 : tie.Need-shared-slice-read-t20
+shared-slice-read-t20 c = search needs
+
+num32-requires : tie.Need-num32-requires
+num32-requires c κs = search needs
+
+dword12-requires : tie.Need-dword12-requires
+dword12-requires c κs = search needs
+
+body-requires : tie.Need-body-requires
+body-requires c κs = search needs
+
+returns : tie.Need-returns
+unfolding decodeFrame
+returns c = simp (c .body .ensures, c .before .dword12 .ensures, c .before .before .num32 .ensures, c .before .before .before .before .before .num16 .ensures, c .before .before .before .before .before .before .dwords .ensures)
+
+pub decode-frame-spec : {M : Type 1} → statement M
+decode-frame-spec =
+    tie.close
+    (tie.spec
+    shared-slice-read-t3
+    shared-slice-read-t5
+    shared-slice-read-t9
+    shared-slice-read-t12
+    dwords-requires
+    num16-requires
+    shared-slice-read-t18
+    shared-slice-read-t20
+    num32-requires
+    dword12-requires
+    body-requires
+    returns)

@@ -4,3 +4,4 @@ pub mod Injective
 pub mod Tables
 pub mod Invariant
 pub mod Completed
+pub mod Computed

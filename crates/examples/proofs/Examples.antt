@@ -1,17 +1,15 @@
 -- The examples of document 01 that are to be shown of the definitions: one list, under one statement.
 use mathlib.Core.Path.{_≡_, refl}
-use mathlib.Core.Bool.{true, false}
+use mathlib.Core.Bool.{true, false, cond}
 use mathlib.Core.List.{List, [], _∷_, _++_}
-use Prim.Native.Nat.{ℕ, _^_}
+use Prim.Native.Nat.{ℕ, zero, suc, _+_, _/_, _%_, _^_}
 use Rattle.packet.specs.declared.Packet.{Packet}
 use Rattle.packet.specs.declared.Body.the-variants.{Tr, Inv, Ic, Prq}
 use Rattle.packet.specs.declared.InvalidateRequest.{InvalidateRequest}
 use Rattle.packet.specs.declared.PageRequest.{PageRequest}
 use Rattle.packet.specs.Numbers.{ok, refusal, Result}
-use Rattle.packet.specs.Frames.{decodeFrame, fourBytes}
-use Rattle.packet.specs.Forms.{choose}
-use Rattle.packet.specs.Kinds.{bodyIn, wellFormed, allowedBody, bodyInRange, payloadLength, formOf, packetFrame}
-use Rattle.packet.specs.Reading.{readForm, reading, payloadIn, qwordAt}
+use Rattle.packet.specs.Frames.{fourBytes}
+use Rattle.packet.specs.Reading.{reading}
 use Rattle.packet.specs.Writing.{bytesOf, writing}
 use Rattle.lister.specs.Line.{lineRead, lineText}
 use Rattle.rows.specs.Rows.{outLine}
@@ -19,38 +17,23 @@ use Rattle.text.specs.Digits.{allHex, unhex, decimal, decimalIn}
 use Rattle.ranges.specs.declared.Translation.{Translation}
 use Rattle.ranges.specs.declared.Size.{Size}
 use Rattle.ranges.specs.declared.Size.the-variants.{Exponent, NoSize}
-use Rattle.ranges.specs.Range.{regionOf, roundedOf, rangeFrom, unitsFrom, relocated}
-use Rattle.ranges.specs.Size.{lowestZero, sizeOf, translationOf}
+use Rattle.ranges.specs.Size.{sizeOf, translationOf}
+use lib.Dec.{ltb}
 use lib.ListN.{replicate}
-use Rattle.lemmas.specs.First.{firstIndex}
-use Rattle.lemmas.specs.Fold.{foldMap}
-use Rattle.lemmas.specs.Iterate.{iterate}
-use Rattle.lemmas.specs.All.{allBelow}
-use Rattle.tlp.specs.Translations.{translationAt}
-use Rattle.atc.specs.Cache.{found, filledWith, unitDropped, rangeDropped}
 use Rattle.tags.specs.declared.TagState.the-variants.{Translate}
-use Rattle.tags.specs.Itags.{isIn, withItag}
-use Rattle.tags.specs.Tags.{freeTag, tagState, setTag, translationRange, readRange, pendingOverlaps, invalidatedTags, allStale}
+use Rattle.tags.specs.Tags.{tagState}
 use Rattle.translations.specs.declared.Rcb.the-variants.{B64}
-use Rattle.translations.specs.Fits.{onBoundary, firstPart, partOf, commonSize, beginsIn, receivedCount, translationFits, allFit, sizeFits, classified}
-use Rattle.translations.specs.Fills.{unitUpdated, updatedIfCovered, updatedAt, applied}
 use Rattle.state.specs.declared.Function.{Function}
 use Rattle.state.specs.State.{fresh}
-use Rattle.state.specs.Answers.{Unrefused, done, tag, sends}
-use Rattle.state.specs.Switches.{resetting, enabling, switchingOn}
+use Rattle.state.specs.Answers.{Unrefused, done, tag}
 use Rattle.call_access.specs.declared.Target.{Target}
 use Rattle.call_access.specs.declared.Direction.the-variants.{Read as ToRead}
-use Rattle.call_ask.specs.Ask.{isBelowTop, isAskable, asking}
-use Rattle.call_access.specs.Access.{lookingUp, accessing}
-use Rattle.on_completion.specs.Translations.{appliedIfLive, onTranslationData}
-use Rattle.pages.specs.Pages.{isWaiting, usedCredits, isSpent, requestAdded}
-use Rattle.call_page.specs.PageRequests.{requestingOn}
-use Rattle.on_invalidate.specs.Invalidate.{invalidatedRange, invalidated}
-use Rattle.on_completion.specs.Completions.{completed}
-use Rattle.call_receive.specs.Receive.{taken, received}
+use Rattle.call_access.specs.Access.{lookingUp}
+use Rattle.on_invalidate.specs.Invalidate.{invalidatedRange}
 use Rattle.card.specs.declared.Command.{Command}
 use Rattle.card.specs.declared.Command.the-variants.{Reset, Enable, Ask, Access, Receive, PagesOn, PageRequest as Requests}
-use Rattle.card.specs.Call.{calling, step}
+use Rattle.card.specs.Call.{step}
+use Rattle.card.proofs.Computed.{computed}
 
 -- an example says that two things are equal
 record Example : Type 1 where
@@ -91,21 +74,24 @@ pageRequest = record { head = record { tc = 0; sender = 0x0100 }; body = Prq pag
 abbrev pageBytes : List ℕ
 pageBytes = fourBytes 0x3000_0000 ++ fourBytes 0x0100_0004 ++ fourBytes 0 ++ fourBytes 0x0020_301D
 
--- 00000402010005FF00203000
+-- the last digits of a number in hex, as characters
+abbrev inHex : ℕ → ℕ → List ℕ
+inHex zero n = []
+inHex (suc k) n = cond (ltb (n / 16 ^ k % 16) 10) (48 + n / 16 ^ k % 16) (55 + n / 16 ^ k % 16) ∷ inHex k n
+
 abbrev line1 : List ℕ
-line1 = 48 ∷ 48 ∷ 48 ∷ 48 ∷ 48 ∷ 52 ∷ 48 ∷ 50 ∷ 48 ∷ 49 ∷ 48 ∷ 48 ∷ 48 ∷ 53 ∷ 70 ∷ 70 ∷ 48 ∷ 48 ∷ 50 ∷ 48 ∷ 51 ∷ 48 ∷ 48 ∷ 48 ∷ []
+line1 = inHex 24 0x0000_0402_0100_05FF_0020_3000
 
--- 32000000010000020008000180000001
 abbrev line2 : List ℕ
-line2 = 51 ∷ 50 ∷ 48 ∷ 48 ∷ 48 ∷ 48 ∷ 48 ∷ 48 ∷ 48 ∷ 49 ∷ 48 ∷ 48 ∷ 48 ∷ 48 ∷ 48 ∷ 50 ∷ 48 ∷ 48 ∷ 48 ∷ 56 ∷ 48 ∷ 48 ∷ 48 ∷ 49 ∷ 56 ∷ 48 ∷ 48 ∷ 48 ∷ 48 ∷ 48 ∷ 48 ∷ 49 ∷ []
+line2 = inHex 32 0x3200_0000_0100_0002_0008_0001_8000_0001
 
--- 1, TR, 0100, 5
+-- 1, TR, 0100, 5, with tabs between them and a line feed at the end
 abbrev shown1 : List ℕ
-shown1 = 49 ∷ 9 ∷ 84 ∷ 82 ∷ 9 ∷ 48 ∷ 49 ∷ 48 ∷ 48 ∷ 9 ∷ 53 ∷ 10 ∷ []
+shown1 = fourBytes 0x3109_5452 ++ fourBytes 0x0930_3130 ++ fourBytes 0x3009_350A
 
 -- 2, IC, 0100, 80000001
 abbrev shown2 : List ℕ
-shown2 = 50 ∷ 9 ∷ 73 ∷ 67 ∷ 9 ∷ 48 ∷ 49 ∷ 48 ∷ 48 ∷ 9 ∷ 56 ∷ 48 ∷ 48 ∷ 48 ∷ 48 ∷ 48 ∷ 48 ∷ 49 ∷ 10 ∷ []
+shown2 = fourBytes 0x3209_4943 ++ fourBytes 0x0930_3130 ++ fourBytes 0x3009_3830 ++ fourBytes 0x3030_3030 ++ 0x30 ∷ 0x31 ∷ 0x0A ∷ []
 
 -- ---- runs of calls on a new Function, each with the bytes beside it and a buffer of 16 bytes
 
@@ -193,5 +179,5 @@ examples =
     ∷ []
 
 pub examples-hold : Hold examples
-unfolding lowestZero sizeOf translationOf regionOf decodeFrame choose bodyIn wellFormed allowedBody bodyInRange payloadLength formOf packetFrame readForm reading bytesOf writing allHex unhex decimal decimalIn lineRead lineText outLine firstIndex foldMap iterate allBelow roundedOf rangeFrom unitsFrom relocated payloadIn qwordAt translationAt found filledWith unitDropped rangeDropped isIn withItag freeTag tagState setTag translationRange readRange pendingOverlaps invalidatedTags allStale onBoundary firstPart partOf commonSize beginsIn receivedCount translationFits allFit sizeFits classified unitUpdated updatedIfCovered updatedAt applied sends resetting enabling isBelowTop isAskable asking lookingUp accessing appliedIfLive onTranslationData invalidatedRange invalidated completed taken received switchingOn isWaiting usedCredits isSpent requestAdded requestingOn calling
+unfolding computed allHex unhex decimal decimalIn lineRead lineText outLine
 examples-hold = (refl, (refl, (refl, (refl, (refl, (refl, (refl, (refl, (refl, (refl, (refl, (refl, (refl, (refl, (refl, (refl, (refl, (refl, (refl, (refl, (refl, (refl, (refl, (refl, (refl, (refl, (refl, (refl, (refl, tt)))))))))))))))))))))))))))))

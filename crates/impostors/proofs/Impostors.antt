@@ -15,34 +15,10 @@ use Rattle.packet.specs.declared.Body.{Body}
 use Rattle.packet.specs.declared.Body.the-variants.{Tr, Mem, Cpl, Inv, Ic, Prq, Prs}
 use Rattle.packet.specs.declared.Packet.{Packet}
 use Rattle.packet.specs.Numbers.{Result, ok, refusal}
-use Rattle.packet.specs.Frames.{decodeFrame}
-use Rattle.packet.specs.Forms.{choose}
-use Rattle.packet.specs.Kinds.{bodyIn, wellFormed, allowedBody, bodyInRange, payloadLength, formOf, packetFrame}
-use Rattle.packet.specs.Reading.{readForm, reading, payloadIn, qwordAt}
-use Rattle.packet.specs.Writing.{bytesOf, writing}
-use Rattle.ranges.specs.Range.{regionOf, roundedOf, rangeFrom, unitsFrom, relocated}
-use Rattle.ranges.specs.Size.{lowestZero, sizeOf, translationOf}
-use Rattle.lemmas.specs.First.{firstIndex}
-use Rattle.lemmas.specs.Iterate.{iterate}
-use Rattle.lemmas.specs.All.{allBelow}
-use Rattle.lemmas.specs.Fold.{foldMap}
-use Rattle.tlp.specs.Translations.{translationAt}
-use Rattle.atc.specs.Cache.{found, filledWith, unitDropped, rangeDropped}
-use Rattle.tags.specs.Itags.{isIn, withItag, without}
-use Rattle.tags.specs.Tags.{freeTag, tagState, setTag, translationRange, readRange, pendingOverlaps, invalidatedTags, allStale, delayedItags}
-use Rattle.translations.specs.Fits.{onBoundary, firstPart as startsPart, secondPart, partOf, commonSize, beginsIn, receivedCount, translationFits, allFit, sizeFits, classified}
-use Rattle.translations.specs.Fills.{unitUpdated, updatedIfCovered, updatedAt, applied}
-use Rattle.state.specs.Answers.{sends}
-use Rattle.state.specs.Switches.{resetting, enabling, disabling}
-use Rattle.call_ask.specs.Ask.{isBelowTop, isAskable, asking}
-use Rattle.call_access.specs.Access.{lookingUp, accessing}
-use Rattle.call_send.specs.Drain.{sendsVector}
-use Rattle.on_completion.specs.Reads.{onReadData, onReadStatus}
-use Rattle.on_completion.specs.Translations.{appliedIfLive, onTranslationData, onTranslationStatus}
-use Rattle.on_completion.specs.Completions.{completed}
-use Rattle.on_invalidate.specs.Invalidate.{invalidatedRange, invalidated}
-use Rattle.call_receive.specs.Receive.{taken, received}
-use Rattle.card.specs.Call.{calling}
+use Rattle.packet.specs.Reading.{reading}
+use Rattle.packet.specs.Writing.{bytesOf}
+use Rattle.atc.specs.Cache.{filledWith}
+use Rattle.tags.specs.Tags.{tagState}
 use Rattle.atc.specs.declared.Entry.{Entry}
 use Rattle.atc.specs.Cache.{entryAt, noEntry, emptied}
 use Rattle.tags.specs.declared.TagState.{TagState}
@@ -65,6 +41,7 @@ use Rattle.demand3.proofs.Theorem.{broughtIn, brought}
 use Rattle.demands.specs.Demands.{Call, Cached, terms, isReset, addressFor, callTaken, observer, heldIn}
 use Rattle.impostors.proofs.Runs.{simply, enable, drain, ask, read, granted, grantedLate, firstPart, bothParts, nothingSaid, elsewhere, request, another, three, four-of-another, page}
 use Rattle.lemmas.proofs.Cases.{impossible}
+use Rattle.card.proofs.Computed.{computed}
 
 -- the card with another step
 abbrev cardBy : (Function → Call → Observed) → Machine observer
@@ -360,7 +337,7 @@ pub record Refused : Type 1 where
   pub shadow : Order shadowCard → ⊥
 
 pub refused : Refused
-unfolding decodeFrame choose bodyIn wellFormed allowedBody bodyInRange payloadLength formOf packetFrame readForm reading payloadIn qwordAt bytesOf writing regionOf roundedOf rangeFrom unitsFrom relocated lowestZero sizeOf translationOf firstIndex iterate allBelow foldMap translationAt found filledWith unitDropped rangeDropped isIn withItag without freeTag tagState setTag translationRange readRange pendingOverlaps invalidatedTags allStale delayedItags onBoundary startsPart secondPart partOf commonSize beginsIn receivedCount translationFits allFit sizeFits classified unitUpdated updatedIfCovered updatedAt applied sends resetting enabling disabling isBelowTop isAskable asking lookingUp accessing sendsVector onReadData onReadStatus appliedIfLive onTranslationData onTranslationStatus completed invalidatedRange invalidated taken received calling
+unfolding computed
 refused =
     record {
       keeper = λ d. no-tf (sym (shown (cardBy keeper) d warm request (drain ∷ bothParts ∷ []) (record { arrived = record { unbroken = (refl, (refl, (refl, (refl, (refl, (refl, tt)))))); accepted = refl; goesOn = (refl, (refl, tt)) }; sent = lit< tt }) 0 _ refl refl));

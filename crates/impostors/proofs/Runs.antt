@@ -6,44 +6,19 @@ use mathlib.Core.Option.{none, some}
 use Prim.Native.Nat.{ℕ, _+_}
 use lib.Dec.{lit<}
 use lib.ListN.{replicate}
-use Rattle.packet.specs.Frames.{decodeFrame, fourBytes}
-use Rattle.packet.specs.Forms.{choose}
-use Rattle.packet.specs.Kinds.{bodyIn, wellFormed, allowedBody, bodyInRange, payloadLength, formOf, packetFrame}
+use Rattle.packet.specs.Frames.{fourBytes}
 use Rattle.packet.specs.Numbers.{ok, refusal}
-use Rattle.packet.specs.Reading.{readForm, reading, payloadIn, qwordAt}
-use Rattle.packet.specs.Writing.{bytesOf, writing}
 use Rattle.ranges.specs.declared.Range.{Range}
-use Rattle.ranges.specs.Range.{regionOf, roundedOf, rangeFrom, unitsFrom, relocated}
-use Rattle.ranges.specs.Size.{lowestZero, sizeOf, translationOf}
-use Rattle.lemmas.specs.First.{firstIndex}
-use Rattle.lemmas.specs.Iterate.{iterate}
-use Rattle.lemmas.specs.All.{allBelow}
-use Rattle.lemmas.specs.Fold.{foldMap}
 use Rattle.tlp.specs.Qwords.{areBytes}
-use Rattle.tlp.specs.Translations.{translationAt}
-use Rattle.atc.specs.Cache.{found, filledWith, unitDropped, rangeDropped}
-use Rattle.tags.specs.Itags.{isIn, withItag, without}
-use Rattle.tags.specs.Tags.{freeTag, tagState, setTag, translationRange, readRange, pendingOverlaps, invalidatedTags, allStale, delayedItags}
-use Rattle.translations.specs.Fits.{onBoundary, firstPart as startsPart, secondPart, partOf, commonSize, beginsIn, receivedCount, translationFits, allFit, sizeFits, classified}
-use Rattle.translations.specs.Fills.{unitUpdated, updatedIfCovered, updatedAt, applied}
 use Rattle.state.specs.State.{fresh, rcbOf}
-use Rattle.state.specs.Answers.{sends, done}
-use Rattle.state.specs.Switches.{resetting, enabling, disabling}
+use Rattle.state.specs.Answers.{done}
 use Rattle.call_access.specs.declared.Direction.the-variants.{Read}
-use Rattle.call_ask.specs.Ask.{isBelowTop, isAskable, asking}
-use Rattle.call_access.specs.Access.{lookingUp, accessing}
-use Rattle.call_send.specs.Drain.{sendsVector}
-use Rattle.on_completion.specs.Reads.{onReadData, onReadStatus}
-use Rattle.on_completion.specs.Translations.{appliedIfLive, onTranslationData, onTranslationStatus}
-use Rattle.on_completion.specs.Completions.{completed}
-use Rattle.on_invalidate.specs.Invalidate.{invalidatedRange, invalidated}
-use Rattle.call_receive.specs.Receive.{taken, received}
 use Rattle.card.specs.declared.Command.{Command}
 use Rattle.card.specs.declared.Command.the-variants.{Reset, Enable, Ask, Access, Receive, Drain}
-use Rattle.card.specs.Call.{calling}
 use Rattle.demand3.specs.Demand.{Bench, Ticket, fetch, accepts, openAt, readIn, remains, waits, completions, next, seen, stateAfter, history, Completed}
 use Rattle.demand3.proofs.Theorem.{broughtIn}
 use Rattle.demands.specs.Demands.{Call, Cached, isTyped, heldIn, card}
+use Rattle.card.proofs.Computed.{computed}
 
 -- ---- calls on the card, each with a buffer of 24 bytes
 
@@ -178,7 +153,7 @@ pub record Happens : Type 0 where
   pub completesLarge : completions three (history card large (drain ∷ bothParts ∷ drain ∷ request ∷ warmLarge)) ≡ 1
 
 pub happens : Happens
-unfolding decodeFrame choose bodyIn wellFormed allowedBody bodyInRange payloadLength formOf packetFrame readForm reading payloadIn qwordAt bytesOf writing regionOf roundedOf rangeFrom unitsFrom relocated lowestZero sizeOf translationOf firstIndex iterate allBelow foldMap translationAt found filledWith unitDropped rangeDropped isIn withItag without freeTag tagState setTag translationRange readRange pendingOverlaps invalidatedTags allStale delayedItags onBoundary startsPart secondPart partOf commonSize beginsIn receivedCount translationFits allFit sizeFits classified unitUpdated updatedIfCovered updatedAt applied sends resetting enabling disabling isBelowTop isAskable asking lookingUp accessing sendsVector onReadData onReadStatus appliedIfLive onTranslationData onTranslationStatus completed invalidatedRange invalidated taken received calling
+unfolding computed
 happens =
     record {
       opens = refl;

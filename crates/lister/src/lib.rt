@@ -65,7 +65,7 @@ fn put_row(number: u64, line: Line, out: &mut [u8]) -> usize
     }
 }
 
-// The output line of line `refusal`, at the start of `out`, and its length. An `out` of fewer than 64
+// The output line of line `number`, at the start of `out`, and its length. An `out` of fewer than 64
 // bytes, which is more than any line takes, is left as it was.
 pub fn list_line(number: u64, line: &[u8], out: &mut [u8]) -> usize
     ensures { λ r. ⌜ (r, now (out .exit)) ≡ rowIn (lineText number (now (line .entry))) (now (out .entry)) ⌝ }
@@ -96,8 +96,8 @@ pub struct Fed {
 }
 
 // Takes the next block of the input, as much of it as `out` has room for at 64 bytes a character. The
-// first `held` characters of `set_tag` are the start of line `refusal`; of a line that is too long they are
-// the first 289, which show that it is. A `set_tag` that has no room for these takes nothing.
+// first `held` characters of `hold` are the start of line `number`; of a line that is too long they are
+// the first 289, which show that it is. A `hold` that has no room for these takes nothing.
 pub fn feed(from: Progress, hold: &mut [u8], block: &[u8], out: &mut [u8]) -> Fed
     ensures { λ r. ⌜ (r, now (hold .exit), now (out .exit)) ≡ fed from (now (hold .entry)) (now (block .entry)) (now (out .entry)) ⌝ }
 {

@@ -61,7 +61,7 @@ fn keep(hold: &mut [u8], at: usize, cs: &[u8]) -> usize
     at + n
 }
 
-// The line of which `set_tag` has the first `held` characters, and `cs` is the rest.
+// The line of which `hold` has the first `held` characters, and `cs` is the rest.
 fn held_line(number: u64, held: usize, hold: &[u8], cs: &[u8], out: &mut [u8]) -> usize
     requires { ⌜ (held ≤ 289) × (289 ≤ length (now hold)) × (64 ≤ length (now out)) ⌝ }
     ensures { λ r. ⌜ Laid 0 (lineText number (take held (now (hold .entry)) ++ now (cs .entry))) (now (out .entry)) r (now (out .exit)) ⌝ }

@@ -1,4 +1,5 @@
-// main CALLS RUNS: replays the mix on the proved card and on the model in C, holds their sums together, and prints the times of both.
+// main CALLS RUNS: replays the mix on the proved card and on the model in C, holds their sums together,
+// and prints the times of both.
 #include <time.h>
 #include "make.h"
 

@@ -1,4 +1,5 @@
-// Makes scripts. The model runs along, so that completions and responses are for what is open; what the calls answer is counted.
+// Makes scripts. The model runs along, so that completions and responses are for what is open;
+// what the calls answer is counted.
 #include <stdio.h>
 #include <stdlib.h>
 #include "calls.h"

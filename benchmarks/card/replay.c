@@ -1,4 +1,5 @@
-// A script replayed on the model. This file is built once for each level of the optimizer, with REPLAY and NOTHING as its functions' names.
+// A script replayed on the model. This file is built once for each level of the optimizer, with REPLAY and
+// NOTHING as its functions' names.
 #include "calls.h"
 
 static uint64_t mix(uint64_t sum, uint32_t x) { return (sum & 0xFFFFFFFF) * 16777619 + x; }

@@ -1,12 +1,13 @@
-// A script of calls: three numbers each, and a part of a pool of bytes, which is a packet that is received or an access's payload. The proved
-// side, crates/bench_card, takes them apart in the same way.
+// A script of calls: three numbers each, and a part of a pool of bytes, which is a packet that is received or an
+// access's payload. The proved side, crates/bench_card, takes them apart in the same way.
 #include <stdbool.h>
 #include <stddef.h>
 #include <stdint.h>
 
 enum call { RESET, ENABLE, DISABLE, ASK, READ, WRITE, RECEIVE, DRAIN, SWITCH_ON, SWITCH_OFF, REQUEST_PAGE, CALLS };
 
-// The numbers of a call: call and flags (8 bits each), number, load, room (16 bits each), lowest first; address; where its bytes begin.
+// The numbers of a call: call and flags (8 bits each), number, load, room (16 bits each), lowest first;
+// address; where its bytes begin.
 struct script {
     uint64_t *numbers;
     uint8_t *pool;
@@ -26,7 +27,7 @@ static inline struct step step_at(const uint64_t *numbers, const uint8_t *pool, 
                          numbers[3 * i + 1], pool + numbers[3 * i + 2]};
 }
 
-// A replay: the script's numbers and pool, a buffer that packets are sent into, and whether every byte of it goes into the sum that is
-// returned, after each call.
+// A replay: the script's numbers and pool, a buffer that packets are sent into, and whether every byte of it goes into
+// the sum that is returned, after each call.
 typedef uint64_t replay(const uint64_t *numbers, size_t count, const uint8_t *pool, size_t pool_size, uint8_t *out,
                         size_t out_size, bool checked);

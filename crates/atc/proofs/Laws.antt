@@ -22,12 +22,15 @@ use Rattle.atc.specs.declared.Found.{Found}
 use Rattle.atc.specs.declared.Found.the-variants.{Hit, Miss}
 use Rattle.atc.specs.Cache.{noEntry, blank, emptied, isEntryOf, isFreeSlot, slotOf, freeSlot, slotAt, entryAt, found, withSlot, filledWith, unitDropped, entryOverlaps, entryDropped, rangeDropped, SoundCache}
 
--- A cache of any make is a type C with these operations. An entry stands at a number, and `noEntry` where there is none.
+-- A cache of any make is a type C with these operations. An entry stands at a number, and
+-- `noEntry` where there is none.
 pub record CacheLaws (C : Type 0) (Sound : C → Type 0) (at : C → ℕ → Entry) (find : C → ℕ → Found) (new : C) (empty : C → C) (fill : Entry → C → C) (drop : ℕ → C → C) (dropRange : ℕ → Range → C → C) : Type 0 where
   -- a unit has at most one entry
-  pub single : (c : C) → Sound c → (i j : ℕ) → at c i .used ≡ true → at c j .used ≡ true → at c i .unit ≡ at c j .unit → i ≡ j
+  pub single : (c : C) → Sound c → (i j : ℕ) → at c i .used ≡ true → at c j .used ≡ true → at c i .unit ≡ at c j .unit
+      → i ≡ j
   -- what is found is an entry of the unit, and is held; an entry that is held is found by its unit
-  pub found-is : (c : C) → Sound c → (unit : ℕ) (e : Entry) → find c unit ≡ Hit e → (e .used ≡ true) × (e .unit ≡ unit) × ((i : ℕ) × (at c i ≡ e))
+  pub found-is : (c : C) → Sound c → (unit : ℕ) (e : Entry) → find c unit ≡ Hit e
+      → (e .used ≡ true) × (e .unit ≡ unit) × ((i : ℕ) × (at c i ≡ e))
   pub found-only : (c : C) → Sound c → (i : ℕ) → at c i .used ≡ true → find c (at c i .unit) ≡ Hit (at c i)
   -- a new cache holds nothing
   pub new-sound : Sound new
@@ -39,17 +42,23 @@ pub record CacheLaws (C : Type 0) (Sound : C → Type 0) (at : C → ℕ → Ent
   pub fill-sound : (e : Entry) (c : C) → Sound c → Sound (fill e c)
   pub fill-entry : (e : Entry) (c : C) → Sound c → (i : ℕ) → (at (fill e c) i ≡ at c i) ⊎ (at (fill e c) i ≡ e)
   pub fill-found : (e : Entry) (c : C) → Sound c → e .used ≡ true → find (fill e c) (e .unit) ≡ Hit e
-  pub fill-other : (e : Entry) (c : C) → Sound c → (unit : ℕ) → (e .unit ≡ unit → ⊥) → (find (fill e c) unit ≡ find c unit) ⊎ (find (fill e c) unit ≡ Miss)
+  pub fill-other : (e : Entry) (c : C) → Sound c → (unit : ℕ) → (e .unit ≡ unit → ⊥)
+      → (find (fill e c) unit ≡ find c unit) ⊎ (find (fill e c) unit ≡ Miss)
   -- the entry of a unit deleted: it is not found, and any other is as before
   pub drop-sound : (unit : ℕ) (c : C) → Sound c → Sound (drop unit c)
-  pub drop-entry : (unit : ℕ) (c : C) → Sound c → (i : ℕ) → (at (drop unit c) i ≡ at c i) ⊎ (at (drop unit c) i ≡ noEntry)
+  pub drop-entry : (unit : ℕ) (c : C) → Sound c → (i : ℕ)
+      → (at (drop unit c) i ≡ at c i) ⊎ (at (drop unit c) i ≡ noEntry)
   pub drop-found : (unit : ℕ) (c : C) → Sound c → find (drop unit c) unit ≡ Miss
-  pub drop-other : (unit : ℕ) (c : C) → Sound c → (other : ℕ) → (unit ≡ other → ⊥) → find (drop unit c) other ≡ find c other
+  pub drop-other : (unit : ℕ) (c : C) → Sound c → (other : ℕ) → (unit ≡ other → ⊥)
+      → find (drop unit c) other ≡ find c other
   -- a range deleted: just the entries go whose unit overlaps it
   pub range-sound : (stu : ℕ) (range : Range) (c : C) → Sound c → Sound (dropRange stu range c)
-  pub range-entry : (stu : ℕ) (range : Range) (c : C) → Sound c → (i : ℕ) → at (dropRange stu range c) i ≡ entryDropped stu range (at c i)
-  pub range-found : (stu : ℕ) (range : Range) (c : C) → Sound c → (unit : ℕ) → overlaps (regionOf unit (unitExponent stu)) range ≡ true → find (dropRange stu range c) unit ≡ Miss
-  pub range-other : (stu : ℕ) (range : Range) (c : C) → Sound c → (unit : ℕ) → overlaps (regionOf unit (unitExponent stu)) range ≡ false → find (dropRange stu range c) unit ≡ find c unit
+  pub range-entry : (stu : ℕ) (range : Range) (c : C) → Sound c → (i : ℕ)
+      → at (dropRange stu range c) i ≡ entryDropped stu range (at c i)
+  pub range-found : (stu : ℕ) (range : Range) (c : C) → Sound c → (unit : ℕ)
+      → overlaps (regionOf unit (unitExponent stu)) range ≡ true → find (dropRange stu range c) unit ≡ Miss
+  pub range-other : (stu : ℕ) (range : Range) (c : C) → Sound c → (unit : ℕ)
+      → overlaps (regionOf unit (unitExponent stu)) range ≡ false → find (dropRange stu range c) unit ≡ find c unit
 
 -- a used slot is one of the list
 used-lt : (slots : List Entry) (i : ℕ) → slotAt slots i .used ≡ true → i < length slots
@@ -63,7 +72,8 @@ of-unit : (unit : ℕ) (e : Entry) → isEntryOf unit e ≡ true → (e .used �
 of-unit unit e h = let t = and-both (e .used) (eqb (e .unit) unit) h in (t .0, eqb-true (e .unit) unit (t .1))
 
 -- what only loses entries stays sound
-fewer : (c d : Cache) → length (d .slots) ≡ 32 → ((i : ℕ) → (entryAt d i ≡ entryAt c i) ⊎ (entryAt d i ≡ noEntry)) → SoundCache c → SoundCache d
+fewer : (c d : Cache) → length (d .slots) ≡ 32 → ((i : ℕ) → (entryAt d i ≡ entryAt c i) ⊎ (entryAt d i ≡ noEntry))
+    → SoundCache c → SoundCache d
 fewer c d all f s = record { slots = all; single = λ i j u v q. s .single i j (rw (kept i u) at u) (rw (kept j v) at v) (rw (kept i u, kept j v) at q) }
   where
     kept : (k : ℕ) → entryAt d k .used ≡ true → entryAt d k ≡ entryAt c k
@@ -112,12 +122,14 @@ module _ (c : Cache) (s : SoundCache c) (unit : ℕ) where
   found-none : found c unit ≡ Miss → (i : ℕ) → entryAt c i .used ≡ true → entryAt c i .unit ≡ unit → ⊥
   found-none f i u q = let m : Hit (entryAt c i) ≡ Miss = sym (found-at i u q) ∙ f in impossible cc
 
-  same-found : (d : Cache) → slotOf (d .slots) unit ≡ own → (own < 32 → entryAt d own ≡ entryAt c own) → found d unit ≡ found c unit
+  same-found : (d : Cache) → slotOf (d .slots) unit ≡ own → (own < 32 → entryAt d own ≡ entryAt c own)
+      → found d unit ≡ found c unit
   unfolding found
   same-found d q f = rw q (byCases (ltb own 32) (λ p. rw p (ap Hit (f (ltb-true _ _ p)))) (λ p. rw p))
 
   -- a store where no entry of the unit was or will be is not seen
-  same-put : (k : ℕ) (e : Entry) (hand : ℕ) → isEntryOf unit (entryAt c k) ≡ false → isEntryOf unit e ≡ false → found (withSlot c k e hand) unit ≡ found c unit
+  same-put : (k : ℕ) (e : Entry) (hand : ℕ) → isEntryOf unit (entryAt c k) ≡ false → isEntryOf unit e ≡ false
+      → found (withSlot c k e hand) unit ≡ found c unit
   same-put k e hand f g =
       same-found (withSlot c k e hand) (first-other (isEntryOf unit) (c .slots) k e noEntry f g)
       (λ l. ⊎-elim (λ q. q) (λ q. absurd (never-both _ (rw (q .0) at (slot-holds l)) f)) (set-or (c .slots) k own e noEntry))
@@ -165,7 +177,8 @@ module _ (e : Entry) (c : Cache) where
   fill-sets = by-place (λ d k. d ≡ withSlot c k e (d .hand)) (λ l. refl) (λ l. refl) (λ m n. refl)
 
   -- each slot holds what it held, or is that one and holds the entry
-  fill-slot : (i : ℕ) → (entryAt (filledWith e c) i ≡ entryAt c i) ⊎ ((i ≡ place e c) × (entryAt (filledWith e c) i ≡ e))
+  fill-slot : (i : ℕ)
+      → (entryAt (filledWith e c) i ≡ entryAt c i) ⊎ ((i ≡ place e c) × (entryAt (filledWith e c) i ≡ e))
   fill-slot i = rw fill-sets (set-or (c .slots) (place e c) i e noEntry)
 
 module _ (e : Entry) (c : Cache) (s : SoundCache c) where
@@ -174,7 +187,8 @@ module _ (e : Entry) (c : Cache) (s : SoundCache c) where
 
   -- where the unit has an entry, that is what is replaced
   fill-own : (i : ℕ) → entryAt c i .used ≡ true → entryAt c i .unit ≡ e .unit → place e c ≡ i
-  fill-own i u q = rw (lt-ltb (slotOf (c .slots) (e .unit)) 32 (slot-lt c s (e .unit) i u q)) (slot-only c s (e .unit) i u q)
+  fill-own i u q =
+      rw (lt-ltb (slotOf (c .slots) (e .unit)) 32 (slot-lt c s (e .unit) i u q)) (slot-only c s (e .unit) i u q)
 
   fill-sound : SoundCache (filledWith e c)
   fill-sound =
@@ -200,14 +214,17 @@ module _ (e : Entry) (c : Cache) (s : SoundCache c) where
       found-at (filledWith e c) fill-sound (e .unit) (place e c) (rw at-place u) (rw at-place) ∙ ap Hit at-place
 
   -- a unit keeps its entry unless it stood in the slot that is set,
-  fill-spared : (unit : ℕ) → (e .unit ≡ unit → ⊥) → isEntryOf unit (entryAt c (place e c)) ≡ false → found (filledWith e c) unit ≡ found c unit
+  fill-spared : (unit : ℕ) → (e .unit ≡ unit → ⊥) → isEntryOf unit (entryAt c (place e c)) ≡ false
+      → found (filledWith e c) unit ≡ found c unit
   fill-spared unit f g =
       ap (λ (d : Cache). found d unit) (fill-sets e c)
       ∙ same-put c s unit (place e c) e (filledWith e c .hand) g (is-false (isEntryOf unit e) (λ h. f (of-unit unit e h .1)))
 
   -- and loses it then
-  fill-other : (unit : ℕ) → (e .unit ≡ unit → ⊥) → (found (filledWith e c) unit ≡ found c unit) ⊎ (found (filledWith e c) unit ≡ Miss)
-  fill-other unit f = byCases (isEntryOf unit (entryAt c (place e c))) (λ h. inr (lost h)) (λ h. inl (fill-spared unit f h))
+  fill-other : (unit : ℕ) → (e .unit ≡ unit → ⊥)
+      → (found (filledWith e c) unit ≡ found c unit) ⊎ (found (filledWith e c) unit ≡ Miss)
+  fill-other unit f =
+      byCases (isEntryOf unit (entryAt c (place e c))) (λ h. inr (lost h)) (λ h. inl (fill-spared unit f h))
     where
       lost : isEntryOf unit (entryAt c (place e c)) ≡ true → found (filledWith e c) unit ≡ Miss
       lost h =
@@ -222,7 +239,8 @@ module _ (e : Entry) (c : Cache) (s : SoundCache c) where
   -- ---- the hand of this cache
 
   -- no unit but the filled one is touched where the hand stays
-  pub fill-spares : filledWith e c .hand ≡ c .hand → (unit : ℕ) → (e .unit ≡ unit → ⊥) → found (filledWith e c) unit ≡ found c unit
+  pub fill-spares : filledWith e c .hand ≡ c .hand → (unit : ℕ) → (e .unit ≡ unit → ⊥)
+      → found (filledWith e c) unit ≡ found c unit
   fill-spares stays unit f =
       fill-spared unit f
       (is-false (isEntryOf unit (entryAt c (place e c)))
@@ -244,7 +262,8 @@ module _ (e : Entry) (c : Cache) (s : SoundCache c) where
       full n i l = byCases (entryAt c i .used) (λ t. t) (λ t. absurd (omega (arith, first-least isFreeSlot (c .slots) noEntry i (rw t))))
 
   -- then the slot that the hand names is set, and the hand steps
-  pub fill-full : found c (e .unit) ≡ Miss → ((i : ℕ) → i < 32 → entryAt c i .used ≡ true) → filledWith e c ≡ withSlot c (c .hand % 32) e ((c .hand + 1) % 2 ^ 32)
+  pub fill-full : found c (e .unit) ≡ Miss → ((i : ℕ) → i < 32 → entryAt c i .used ≡ true)
+      → filledWith e c ≡ withSlot c (c .hand % 32) e ((c .hand + 1) % 2 ^ 32)
   fill-full m f =
       by-place e c (λ d k. d ≡ withSlot c (c .hand % 32) e ((c .hand + 1) % 2 ^ 32))
       (λ l. let own = slot-is c s (e .unit) l in absurd (found-none c s (e .unit) m (slotOf (c .slots) (e .unit)) (own .0) (own .1)))
@@ -263,7 +282,8 @@ module _ (unit : ℕ) (c : Cache) (s : SoundCache c) where
       rw (p, set-out (c .slots) (slotOf (c .slots) unit) noEntry l))
 
   drop-entry : (i : ℕ) → (entryAt (unitDropped unit c) i ≡ entryAt c i) ⊎ (entryAt (unitDropped unit c) i ≡ noEntry)
-  drop-entry i = rw drop-sets (⊎-elim inl (λ q. inr (q .1)) (set-or (c .slots) (slotOf (c .slots) unit) i noEntry noEntry))
+  drop-entry i =
+      rw drop-sets (⊎-elim inl (λ q. inr (q .1)) (set-or (c .slots) (slotOf (c .slots) unit) i noEntry noEntry))
 
   drop-sound : SoundCache (unitDropped unit c)
   drop-sound = fewer c (unitDropped unit c) (rw drop-sets (length-set (c .slots) (slotOf (c .slots) unit) noEntry ∙ s .slots)) drop-entry s
@@ -271,7 +291,8 @@ module _ (unit : ℕ) (c : Cache) (s : SoundCache c) where
   drop-found : found (unitDropped unit c) unit ≡ Miss
   drop-found = none-found (unitDropped unit c) drop-sound unit (λ i u q. gone i (drop-entry i) u q)
     where
-      gone : (i : ℕ) → (entryAt (unitDropped unit c) i ≡ entryAt c i) ⊎ (entryAt (unitDropped unit c) i ≡ noEntry) → entryAt (unitDropped unit c) i .used ≡ true → entryAt (unitDropped unit c) i .unit ≡ unit → ⊥
+      gone : (i : ℕ) → (entryAt (unitDropped unit c) i ≡ entryAt c i) ⊎ (entryAt (unitDropped unit c) i ≡ noEntry)
+          → entryAt (unitDropped unit c) i .used ≡ true → entryAt (unitDropped unit c) i .unit ≡ unit → ⊥
       gone i (inl a) u q =
           let k = slot-only c s unit i (rw a at u) (rw a at q) in
           let l = used-lt (c .slots) i (rw a at u) in
@@ -305,10 +326,12 @@ module _ (stu : ℕ) (range : Range) (c : Cache) where
       (λ i. rw (range-entry i) (byCases (entryOverlaps stu range (entryAt c i)) (λ p. rw p (inr refl)) (λ p. rw p (inl refl)))) s
 
   module _ (s : SoundCache c) (unit : ℕ) where
-    range-found : overlaps (regionOf unit (unitExponent stu)) range ≡ true → found (rangeDropped stu range c) unit ≡ Miss
+    range-found : overlaps (regionOf unit (unitExponent stu)) range ≡ true
+        → found (rangeDropped stu range c) unit ≡ Miss
     range-found m = none-found (rangeDropped stu range c) (range-sound s) unit (λ i u q. never-both _ (rw (u, q, m)) (range-clear i))
 
-    range-other : overlaps (regionOf unit (unitExponent stu)) range ≡ false → found (rangeDropped stu range c) unit ≡ found c unit
+    range-other : overlaps (regionOf unit (unitExponent stu)) range ≡ false
+        → found (rangeDropped stu range c) unit ≡ found c unit
     unfolding rangeDropped
     range-other m =
         same-found c s unit (rangeDropped stu range c) same-slot

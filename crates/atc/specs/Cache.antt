@@ -53,8 +53,9 @@ found c unit = cond (ltb (slotOf (c .slots) unit) 32) (Hit (entryAt c (slotOf (c
 abbrev pub withSlot : Cache → ℕ → Entry → ℕ → Cache
 withSlot c i e hand = record { hand = hand; slots = set (c .slots) i e }
 
--- A fill goes where its unit has an entry already, or else into the lowest slot that is free. With none free it goes where the hand points, which is a slot by the
--- hand's remainder; the hand steps then and only then, and wraps at 2 ^ 32.
+-- A fill goes where its unit has an entry already, or else into the lowest slot that is free. With none
+-- free it goes where the hand points, which is a slot by the hand's remainder; the hand steps then and
+-- only then, and wraps at 2 ^ 32.
 unfoldable pub filledWith : Entry → Cache → Cache
 filledWith e c =
     cond (ltb (slotOf (c .slots) (e .unit)) 32) (withSlot c (slotOf (c .slots) (e .unit)) e (c .hand))
@@ -82,4 +83,5 @@ rangeDropped stu range c = record { hand = c .hand; slots = slotsDropped stu ran
 -- 32 slots, and at most one entry a unit: two used slots are never of the same one
 pub record SoundCache (c : Cache) : Type 0 where
   pub slots : length (c .slots) ≡ 32
-  pub single : (i j : ℕ) → entryAt c i .used ≡ true → entryAt c j .used ≡ true → entryAt c i .unit ≡ entryAt c j .unit → i ≡ j
+  pub single : (i j : ℕ) → entryAt c i .used ≡ true → entryAt c j .used ≡ true → entryAt c i .unit ≡ entryAt c j .unit
+      → i ≡ j

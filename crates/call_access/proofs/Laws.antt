@@ -31,11 +31,13 @@ pub record Reached (direction : Direction) (dwords load : ℕ) (at : Target) : T
 target-dword : (stu address : ℕ) (e : Entry) → address % 4 ≡ 0 → targetOf stu address e .address % 4 ≡ 0
 target-dword stu address e h = byCases (e .u) (λ u. rw u h) (λ u. rw u (relocated-low (e .to) address (unitExponent stu) 2 (omega arith) (omega arith) ∙ h))
 
-throughFound-dword : (direction : Direction) (stu address : ℕ) (entry : Found) (at : Target) → address % 4 ≡ 0 → throughFound direction stu address entry ≡ ok at → at .address % 4 ≡ 0
+throughFound-dword : (direction : Direction) (stu address : ℕ) (entry : Found) (at : Target) → address % 4 ≡ 0
+    → throughFound direction stu address entry ≡ ok at → at .address % 4 ≡ 0
 throughFound-dword direction stu address Miss at h e = impossible cc
 throughFound-dword direction stu address (Hit x) at h e = rw (ok-injective (check-passed (isAllowed direction x) 14 (ok (targetOf stu address x)) e .1)) at (target-dword stu address x h)
 
-pub reached : (f : Function) (a : AccessArgs) (load : ℕ) (at : Target) → lookingUp f a load ≡ ok at → Reached (a .direction) (a .dwords) load at
+pub reached : (f : Function) (a : AccessArgs) (load : ℕ) (at : Target) → lookingUp f a load ≡ ok at
+    → Reached (a .direction) (a .dwords) load at
 unfolding lookingUp
 reached f a load at e =
     let on = check-passed (f .enabled) 6 _ e in
@@ -53,7 +55,8 @@ reached f a load at e =
 
 -- ---- the numbers of a look-up
 
-entering-numbers : (direction : Direction) (stu address : ℕ) (entry : Found) → Among (6 ∷ 12 ∷ 13 ∷ 14 ∷ []) (throughFound direction stu address entry)
+entering-numbers : (direction : Direction) (stu address : ℕ) (entry : Found)
+    → Among (6 ∷ 12 ∷ 13 ∷ 14 ∷ []) (throughFound direction stu address entry)
 entering-numbers direction stu address Miss = search among
 entering-numbers direction stu address (Hit e) = search among
 

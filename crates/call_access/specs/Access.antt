@@ -35,7 +35,8 @@ lookUpResult (Refused r) = refusal (numberOf r)
 
 -- 1 to 32 DWORDs from a multiple of 4 on, within one 4096-byte page
 abbrev pub isInPage : ℕ → ℕ → Bool
-isInPage address dwords = leb 1 dwords && (leb dwords 32 && (eqb (address % 4) 0 && leb (address % 4096 + 4 * dwords) 4096))
+isInPage address dwords =
+    leb 1 dwords && (leb dwords 32 && (eqb (address % 4) 0 && leb (address % 4096 + 4 * dwords) 4096))
 
 -- a write takes 4 bytes a DWORD, a read none
 abbrev pub payloadLengthFor : Direction → ℕ → ℕ

@@ -28,7 +28,8 @@ use Rattle.call_receive.specs.Receive.{taken, takenIf, received, isPaylo
 abbrev Bare : Success → Type 0
 Bare d = isPayload (ok (d .answer)) ≡ false
 
-bare-says : (f : Function) (out : List ℕ) (s : Result Success) → Does Bare s → isPayload (commit f out s .answer) ≡ false
+bare-says : (f : Function) (out : List ℕ) (s : Result Success) → Does Bare s
+    → isPayload (commit f out s .answer) ≡ false
 bare-says f out (ok d) h = h .success d refl
 bare-says f out (refusal n) h = refl
 
@@ -43,7 +44,8 @@ bare-responded f code k On = search does depth 8
 bare-responded f code k Stopped = does-refusal Bare 7
 
 module _ (f : Function) (b : List ℕ) (h : Bytes b) where
-  from-body : (p : Packet) → reading b ≡ ok p → (body : Body) → p .body ≡ body → isPayload (commit f [] (taken f (p .head .sender) (payloadIn b) body) .answer) ≡ true → payloadIn b ≡ drop 12 b
+  from-body : (p : Packet) → reading b ≡ ok p → (body : Body) → p .body ≡ body
+      → isPayload (commit f [] (taken f (p .head .sender) (payloadIn b) body) .answer) ≡ true → payloadIn b ≡ drop 12 b
   unfolding taken
   from-body p e (Tr t) q a = absurd (never-both _ a refl)
   from-body p e (Mem m) q a = absurd (never-both _ a refl)
@@ -53,10 +55,12 @@ module _ (f : Function) (b : List ℕ) (h : Bytes b) where
   from-body p e (Prq r) q a = absurd (never-both _ a refl)
   from-body p e (Prs s) q a = absurd (never-both _ a (bare-says f [] _ (does-case Bare (eqb (s .device) (f .id)) _ _ (λ t. bare-responded f (s .code) (s .index) (f .pages .interface)) (λ t. does-refusal Bare 5))))
 
-  from-reading : (s : Result Packet) → reading b ≡ s → isPayload (commit f [] (takenIf f (payloadIn b) s) .answer) ≡ true → payloadIn b ≡ drop 12 b
+  from-reading : (s : Result Packet) → reading b ≡ s
+      → isPayload (commit f [] (takenIf f (payloadIn b) s) .answer) ≡ true → payloadIn b ≡ drop 12 b
   from-reading (ok p) e a = from-body p e (p .body) refl a
   from-reading (refusal n) e a = absurd (never-both _ a refl)
 
-  pub handed-from-12 : isPayload (commit f [] (received f b) .answer) ≡ true → payloadFor (commit f [] (received f b) .answer) b ≡ drop 12 b
+  pub handed-from-12 : isPayload (commit f [] (received f b) .answer) ≡ true
+      → payloadFor (commit f [] (received f b) .answer) b ≡ drop 12 b
   unfolding received payloadFor
   handed-from-12 a = rw a (from-reading (reading b) refl a)

@@ -46,6 +46,7 @@ isPayload (ok payloadLast) = true
 isPayload (ok readFailed) = false
 isPayload (refusal n) = false
 
--- the payload handed back, by the answer to these bytes: what the packet layer reads as payload, and nothing with any other answer
+-- the payload handed back, by the answer to these bytes: what the packet layer reads as payload, and
+-- nothing with any other answer
 unfoldable pub payloadFor : Result Unrefused → List ℕ → List ℕ
 payloadFor a b = cond (isPayload a) (payloadIn b) []

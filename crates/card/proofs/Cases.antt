@@ -93,60 +93,88 @@ module _ (f : Function) (bytes out : List ℕ) where
 
   pub record Cases (P : Command → Result Success → Type 0) : Type 0 where
     pub refused : (c : Command) (n : ℕ) → isAmong n (numbersOf c) ≡ true → P c (refusal n)
-    pub refusedKind : (p : Packet) → reading bytes ≡ ok p → (n : ℕ) → isAmong n (numbersOfKind (p .body)) ≡ true → P Receive (refusal n)
+    pub refusedKind : (p : Packet) → reading bytes ≡ ok p → (n : ℕ) → isAmong n (numbersOfKind (p .body)) ≡ true
+        → P Receive (refusal n)
     -- neither sends nor receives
-    pub reset : (a : ResetArgs) → leb (a .stu) 31 ≡ true → isRcb (a .rcb) ≡ true → P (Reset a) (sendsNothing (fresh (a .id) (a .stu) (rcbOf (a .rcb))) done)
+    pub reset : (a : ResetArgs) → leb (a .stu) 31 ≡ true → isRcb (a .rcb) ≡ true
+        → P (Reset a) (sendsNothing (fresh (a .id) (a .stu) (rcbOf (a .rcb))) done)
     pub enabled : P Enable (sendsNothing f done)
     pub enable : P Enable (sendsNothing (withEnable (withCache (withTags f (allStale (f .tags))) (emptied (f .cache))) true) done)
     pub disable : P Disable (sendsNothing (withEnable f false) done)
-    pub pagesOn : (allocation : ℕ) → isAllocation allocation ≡ true → P (PagesOn allocation) (sendsNothing (withPages f (switchedOn allocation)) done)
+    pub pagesOn : (allocation : ℕ) → isAllocation allocation ≡ true
+        → P (PagesOn allocation) (sendsNothing (withPages f (switchedOn allocation)) done)
     pub pagesOff : P PagesOff (sendsNothing (withPages f switchedOff) done)
     pub pagesNotOn : P PagesOff (sendsNothing f done)
     -- sends, where there is room
-    pub ask : (a : AskArgs) (t : Tag) → isAskable (f .rcb) (f .stu) a ≡ true → freeTag (f .tags) ≡ Lowest t → P (Asks a) (askWithTag f t a out)
-    pub read : (a : AccessArgs) (at : Target) (t : Tag) → a .direction ≡ ToRead → lookingUp f a (length bytes) ≡ ok at → freeTag (f .tags) ≡ Lowest t → P (Access a) (readFrom f t at a bytes out)
-    pub write : (a : AccessArgs) (at : Target) → a .direction ≡ ToWrite → lookingUp f a (length bytes) ≡ ok at → P (Access a) (writeTo f at (a .dwords) bytes out)
+    pub ask : (a : AskArgs) (t : Tag) → isAskable (f .rcb) (f .stu) a ≡ true → freeTag (f .tags) ≡ Lowest t
+        → P (Asks a) (askWithTag f t a out)
+    pub read : (a : AccessArgs) (at : Target) (t : Tag) → a .direction ≡ ToRead → lookingUp f a (length bytes) ≡ ok at
+        → freeTag (f .tags) ≡ Lowest t → P (Access a) (readFrom f t at a bytes out)
+    pub write : (a : AccessArgs) (at : Target) → a .direction ≡ ToWrite → lookingUp f a (length bytes) ≡ ok at
+        → P (Access a) (writeTo f at (a .dwords) bytes out)
     pub drainsNone : eqb (readyOf f) 0 ≡ true → P Drain (sendsNothing f (carries 0))
     pub drains : P Drain (sends (withWaiting f (without (f .waiting) (readyOf f))) (carries (ones (readyOf f))) (invalidateCompletionPacket (f .id) (f .agent) (readyOf f)) [] out)
-    pub page : (q : PageRequest) → isValidRequest q ≡ true → isSpent (f .pages .groups) (f .pages .allocation) ≡ false → P (PageRequests q) (sends (withPages f (withRequest (f .pages) q)) done (pageRequestPacket (f .id) q) [] out)
+    pub page : (q : PageRequest) → isValidRequest q ≡ true → isSpent (f .pages .groups) (f .pages .allocation) ≡ false
+        → P (PageRequests q) (sends (withPages f (withRequest (f .pages) q)) done (pageRequestPacket (f .id) q) [] out)
     -- receives a completion for a read: the last bytes, some of them, none
-    pub readEnds : (x : Completion) (r : PendingRead) (n : ℕ) → Completes f bytes x → tagState (f .tags) (x .tag) ≡ Read r → x .outcome ≡ Data n → eqb (x .count) (r .due) ≡ true → eqb (length load) (r .due) ≡ true
+    pub readEnds : (x : Completion) (r : PendingRead) (n : ℕ) → Completes f bytes x
+        → tagState (f .tags) (x .tag) ≡ Read r → x .outcome ≡ Data n → eqb (x .count) (r .due) ≡ true
+        → eqb (length load) (r .due) ≡ true
         → P Receive (sendsNothing (withTag f (x .tag) Free) payloadLast)
-    pub readGoesOn : (x : Completion) (r : PendingRead) (n : ℕ) → Completes f bytes x → tagState (f .tags) (x .tag) ≡ Read r → x .outcome ≡ Data n → eqb (x .count) (r .due) ≡ true → leb (length load) (r .due) ≡ true → eqb (length load) (r .due) ≡ false
+    pub readGoesOn : (x : Completion) (r : PendingRead) (n : ℕ) → Completes f bytes x
+        → tagState (f .tags) (x .tag) ≡ Read r → x .outcome ≡ Data n → eqb (x .count) (r .due) ≡ true
+        → leb (length load) (r .due) ≡ true → eqb (length load) (r .due) ≡ false
         → P Receive (sendsNothing (withTag f (x .tag) (Read (withDue r (r .due - length load)))) payloadMore)
-    pub readFails : (x : Completion) (r : PendingRead) (status : ℕ) → Completes f bytes x → tagState (f .tags) (x .tag) ≡ Read r → x .outcome ≡ Status status → eqb status 0 ≡ false
+    pub readFails : (x : Completion) (r : PendingRead) (status : ℕ) → Completes f bytes x
+        → tagState (f .tags) (x .tag) ≡ Read r → x .outcome ≡ Status status → eqb status 0 ≡ false
         → P Receive (sendsNothing (withTag f (x .tag) Free) readFailed)
     -- and for a Translation Request: no data, data that are discarded, data that fill the cache
-    pub aborts : (x : Completion) (q : PendingTranslation) (status : ℕ) → Completes f bytes x → tagState (f .tags) (x .tag) ≡ Translate q → x .outcome ≡ Status status → eqb status 0 ≡ false
+    pub aborts : (x : Completion) (q : PendingTranslation) (status : ℕ) → Completes f bytes x
+        → tagState (f .tags) (x .tag) ≡ Translate q → x .outcome ≡ Status status → eqb status 0 ≡ false
         → P Receive (sendsNothing (withTag f (x .tag) Free) aborted)
-    pub switchesOff : (x : Completion) (q : PendingTranslation) (status : ℕ) → Completes f bytes x → tagState (f .tags) (x .tag) ≡ Translate q → x .outcome ≡ Status status → eqb status 0 ≡ false
+    pub switchesOff : (x : Completion) (q : PendingTranslation) (status : ℕ) → Completes f bytes x
+        → tagState (f .tags) (x .tag) ≡ Translate q → x .outcome ≡ Status status → eqb status 0 ≡ false
         → P Receive (sendsNothing (withEnable (withTag f (x .tag) Free) false) switchedOffBy)
-    pub offBoundary : (x : Completion) (q : PendingTranslation) (n : ℕ) → Completes f bytes x → tagState (f .tags) (x .tag) ≡ Translate q → x .outcome ≡ Data n → partOf f bytes x q ≡ OffBoundary
+    pub offBoundary : (x : Completion) (q : PendingTranslation) (n : ℕ) → Completes f bytes x
+        → tagState (f .tags) (x .tag) ≡ Translate q → x .outcome ≡ Data n → partOf f bytes x q ≡ OffBoundary
         → P Receive (sendsNothing (withTag f (x .tag) Free) discarded)
-    pub firstDiscarded : (x : Completion) (q : PendingTranslation) (n : ℕ) → Completes f bytes x → tagState (f .tags) (x .tag) ≡ Translate q → x .outcome ≡ Data n → partOf f bytes x q ≡ First
+    pub firstDiscarded : (x : Completion) (q : PendingTranslation) (n : ℕ) → Completes f bytes x
+        → tagState (f .tags) (x .tag) ≡ Translate q → x .outcome ≡ Data n → partOf f bytes x q ≡ First
         → P Receive (sendsNothing (withTag f (x .tag) (Translate (afterFirst q (x .count) load))) discarded)
-    pub lastDiscarded : (x : Completion) (q : PendingTranslation) (n : ℕ) → Completes f bytes x → tagState (f .tags) (x .tag) ≡ Translate q → x .outcome ≡ Data n → partOf f bytes x q ≡ Last
+    pub lastDiscarded : (x : Completion) (q : PendingTranslation) (n : ℕ) → Completes f bytes x
+        → tagState (f .tags) (x .tag) ≡ Translate q → x .outcome ≡ Data n → partOf f bytes x q ≡ Last
         → P Receive (sendsNothing (withTag f (x .tag) Free) discarded)
-    pub firstFills : (x : Completion) (q : PendingTranslation) (n : ℕ) → Completes f bytes x → tagState (f .tags) (x .tag) ≡ Translate q → x .outcome ≡ Data n → partOf f bytes x q ≡ First → isLive f q ≡ true
+    pub firstFills : (x : Completion) (q : PendingTranslation) (n : ℕ) → Completes f bytes x
+        → tagState (f .tags) (x .tag) ≡ Translate q → x .outcome ≡ Data n → partOf f bytes x q ≡ First
+        → isLive f q ≡ true
         → P Receive (sendsNothing (withTag (withCache f (applied q load (f .cache))) (x .tag) (Translate (afterFirst q (x .count) load))) more)
-    pub lastFills : (x : Completion) (q : PendingTranslation) (n : ℕ) → Completes f bytes x → tagState (f .tags) (x .tag) ≡ Translate q → x .outcome ≡ Data n → partOf f bytes x q ≡ Last → isLive f q ≡ true
+    pub lastFills : (x : Completion) (q : PendingTranslation) (n : ℕ) → Completes f bytes x
+        → tagState (f .tags) (x .tag) ≡ Translate q → x .outcome ≡ Data n → partOf f bytes x q ≡ Last
+        → isLive f q ≡ true
         → P Receive (sendsNothing (withTag (withCache f (applied q load (f .cache))) (x .tag) Free) filled)
     -- receives an Invalidate Request, and a PRG Response
-    pub invalidates : (i : InvalidateRequest) (a : Arrives f bytes (Inv i) (i .device)) → isOtherAgent (f .agent) (a .packet .head .sender) ≡ false → isIn (f .waiting) (i .itag) ≡ false → P Receive (sendsNothing (invalidatedBy f (a .packet .head .sender) i) done)
-    pub answersGroup : (s : PrgResponse) → Arrives f bytes (Prs s) (s .device) → P Receive (sendsNothing (withPages f (groupAnswered (f .pages) (s .index))) done)
-    pub stopsPages : (s : PrgResponse) → Arrives f bytes (Prs s) (s .device) → P Receive (sendsNothing (withPages f stopped) done)
+    pub invalidates : (i : InvalidateRequest) (a : Arrives f bytes (Inv i) (i .device))
+        → isOtherAgent (f .agent) (a .packet .head .sender) ≡ false → isIn (f .waiting) (i .itag) ≡ false
+        → P Receive (sendsNothing (invalidatedBy f (a .packet .head .sender) i) done)
+    pub answersGroup : (s : PrgResponse) → Arrives f bytes (Prs s) (s .device)
+        → P Receive (sendsNothing (withPages f (groupAnswered (f .pages) (s .index))) done)
+    pub stopsPages : (s : PrgResponse) → Arrives f bytes (Prs s) (s .device)
+        → P Receive (sendsNothing (withPages f stopped) done)
 
 module _ (f : Function) (bytes out : List ℕ) (P : Command → Result Success → Type 0) (k : Cases f bytes out P) where
   -- a test before more: it refuses where it fails, or where it holds
-  needs : (c : Command) (n : ℕ) → isAmong n (numbersOf c) ≡ true → (t : Bool) (s : Result Success) → (t ≡ true → P c s) → P c (check n t s)
+  needs : (c : Command) (n : ℕ) → isAmong n (numbersOf c) ≡ true → (t : Bool) (s : Result Success) → (t ≡ true → P c s)
+      → P c (check n t s)
   needs c n l t s h = either-case (P c) t s (refusal n) h (λ e. k .refused c n l)
 
-  unless : (c : Command) (n : ℕ) → isAmong n (numbersOf c) ≡ true → (t : Bool) (s : Result Success) → (t ≡ false → P c s) → P c (refuse n t s)
+  unless : (c : Command) (n : ℕ) → isAmong n (numbersOf c) ≡ true → (t : Bool) (s : Result Success)
+      → (t ≡ false → P c s) → P c (refuse n t s)
   unless c n l t s h = either-case (P c) t (refusal n) s (λ e. k .refused c n l) h
 
   resets : (a : ResetArgs) → P (Reset a) (resetting a)
   unfolding resetting
-  resets a = needs (Reset a) 12 refl (leb (a .stu) 31) _ (λ s. needs (Reset a) 12 refl (isRcb (a .rcb)) _ (k .reset a s))
+  resets a =
+      needs (Reset a) 12 refl (leb (a .stu) 31) _ (λ s. needs (Reset a) 12 refl (isRcb (a .rcb)) _ (k .reset a s))
 
   enables : P Enable (enabling f)
   unfolding enabling
@@ -180,15 +208,18 @@ module _ (f : Function) (bytes out : List ℕ) (P : Command → Result Success �
   unfolding accessing
   accesses a = go (lookingUp f a (length bytes)) refl (lookingUp-numbers f a (length bytes))
     where
-      on : (at : Target) → a .direction ≡ ToRead → lookingUp f a (length bytes) ≡ ok at → (x : FreeTag) → freeTag (f .tags) ≡ x → P (Access a) (readOn f x at a bytes out)
+      on : (at : Target) → a .direction ≡ ToRead → lookingUp f a (length bytes) ≡ ok at → (x : FreeTag)
+          → freeTag (f .tags) ≡ x → P (Access a) (readOn f x at a bytes out)
       on at w e (Lowest t) free = k .read a at t w e free
       on at w e NoneFree free = k .refused (Access a) 11 refl
 
-      goes : (at : Target) → lookingUp f a (length bytes) ≡ ok at → (direction : Direction) → a .direction ≡ direction → P (Access a) (sendsAccess f direction at a bytes out)
+      goes : (at : Target) → lookingUp f a (length bytes) ≡ ok at → (direction : Direction) → a .direction ≡ direction
+          → P (Access a) (sendsAccess f direction at a bytes out)
       goes at e ToRead w = on at w e (freeTag (f .tags)) refl
       goes at e ToWrite w = k .write a at w e
 
-      go : (s : Result Target) → lookingUp f a (length bytes) ≡ s → Among (6 ∷ 12 ∷ 13 ∷ 14 ∷ []) s → P (Access a) (sendsAccessIf f a bytes out s)
+      go : (s : Result Target) → lookingUp f a (length bytes) ≡ s → Among (6 ∷ 12 ∷ 13 ∷ 14 ∷ []) s
+          → P (Access a) (sendsAccessIf f a bytes out s)
       go (ok at) e h = goes at e (a .direction) refl
       go (refusal n) e h = k .refused (Access a) n (every-one (λ m. isAmong m (numbersOf (Access a))) (6 ∷ 12 ∷ 13 ∷ 14 ∷ []) n refl (h .one n refl))
 
@@ -215,14 +246,17 @@ module _ (f : Function) (bytes out : List ℕ) (P : Command → Result Success �
       comes : Completes f bytes x
       comes = record { packet = p; reads = e; is = is; ours = ours }
 
-      translates : (q : PendingTranslation) (n : ℕ) → tagState (f .tags) (x .tag) ≡ Translate q → x .outcome ≡ Data n → (y : Part) → partOf f bytes x q ≡ y → P Receive (onTranslationPart f (x .tag) q (x .count) (payloadIn bytes) y)
+      translates : (q : PendingTranslation) (n : ℕ) → tagState (f .tags) (x .tag) ≡ Translate q → x .outcome ≡ Data n
+          → (y : Part) → partOf f bytes x q ≡ y
+          → P Receive (onTranslationPart f (x .tag) q (x .count) (payloadIn bytes) y)
       unfolding appliedIfLive
       translates q n h d Misfit j = kind 8 (Cpl x) is refl
       translates q n h d OffBoundary j = k .offBoundary x q n comes h d j
       translates q n h d First j = either-case (P Receive) (isLive f q) _ _ (k .firstFills x q n comes h d j) (λ dead. k .firstDiscarded x q n comes h d j)
       translates q n h d Last j = either-case (P Receive) (isLive f q) _ _ (k .lastFills x q n comes h d j) (λ dead. k .lastDiscarded x q n comes h d j)
 
-      completes-for : (y : Outcome) → x .outcome ≡ y → (o : TagState) → tagState (f .tags) (x .tag) ≡ o → P Receive (completedFor f x (payloadIn bytes) y o)
+      completes-for : (y : Outcome) → x .outcome ≡ y → (o : TagState) → tagState (f .tags) (x .tag) ≡ o
+          → P Receive (completedFor f x (payloadIn bytes) y o)
       unfolding onTranslationData onTranslationStatus onReadData onReadStatus
       completes-for y d Free h = kind 7 (Cpl x) is refl
       completes-for (Data n) d (Translate q) h = translates q n h d (partOf f bytes x q) refl
@@ -235,20 +269,23 @@ module _ (f : Function) (bytes out : List ℕ) (P : Command → Result Success �
           (λ l. either-case (P Receive) (eqb (length (payloadIn bytes)) (r .due)) _ _ (k .readEnds x r n comes h d c) (k .readGoesOn x r n comes h d c l))
           (λ l. kind 8 (Cpl x) is refl))
           (λ c. kind 8 (Cpl x) is refl)
-      completes-for (Status s) d (Read r) h = either-case (P Receive) (eqb s 0) _ _ (λ z. kind 8 (Cpl x) is refl) (k .readFails x r s comes h d)
+      completes-for (Status s) d (Read r) h =
+          either-case (P Receive) (eqb s 0) _ _ (λ z. kind 8 (Cpl x) is refl) (k .readFails x r s comes h d)
 
       completes : P Receive (completed f x (payloadIn bytes))
       unfolding completed
       completes = completes-for (x .outcome) refl (tagState (f .tags) (x .tag)) refl
 
-    invalidating : (i : InvalidateRequest) → p .body ≡ Inv i → eqb (i .device) (f .id) ≡ true → P Receive (invalidated f (p .head .sender) i)
+    invalidating : (i : InvalidateRequest) → p .body ≡ Inv i → eqb (i .device) (f .id) ≡ true
+        → P Receive (invalidated f (p .head .sender) i)
     unfolding invalidated
     invalidating i is ours =
         either-case (P Receive) (isOtherAgent (f .agent) (p .head .sender)) _ _ (λ t. kind 10 (Inv i) is refl)
         (λ own. either-case (P Receive) (isIn (f .waiting) (i .itag)) _ _ (λ t. kind 9 (Inv i) is refl)
         (k .invalidates i (record { packet = p; reads = e; is = is; ours = ours }) own))
 
-    responds : (s : PrgResponse) → p .body ≡ Prs s → eqb (s .device) (f .id) ≡ true → (i : Interface) → P Receive (responded f (s .code) (s .index) i)
+    responds : (s : PrgResponse) → p .body ≡ Prs s → eqb (s .device) (f .id) ≡ true → (i : Interface)
+        → P Receive (responded f (s .code) (s .index) i)
     unfolding respondedOn
     responds s is ours Off = kind 7 (Prs s) is refl
     responds s is ours On =
@@ -262,8 +299,10 @@ module _ (f : Function) (bytes out : List ℕ) (P : Command → Result Success �
     unfolding taken
     takes (Tr t) is = kind 2 (Tr t) is refl
     takes (Mem m) is = kind 2 (Mem m) is refl
-    takes (Cpl x) is = either-case (P Receive) (eqb (x .requester) (f .id)) _ _ (completes x is) (λ n. kind 5 (Cpl x) is refl)
-    takes (Inv i) is = either-case (P Receive) (eqb (i .device) (f .id)) _ _ (invalidating i is) (λ n. kind 5 (Inv i) is refl)
+    takes (Cpl x) is =
+        either-case (P Receive) (eqb (x .requester) (f .id)) _ _ (completes x is) (λ n. kind 5 (Cpl x) is refl)
+    takes (Inv i) is =
+        either-case (P Receive) (eqb (i .device) (f .id)) _ _ (invalidating i is) (λ n. kind 5 (Inv i) is refl)
     takes (Ic i) is = kind 2 (Ic i) is refl
     takes (Prq q) is = kind 2 (Prq q) is refl
     takes (Prs s) is = either-case (P Receive) (eqb (s .device) (f .id)) _ _ (λ ours. responds s is ours (f .pages .interface)) (λ n. kind 5 (Prs s) is refl)
@@ -272,7 +311,8 @@ module _ (f : Function) (bytes out : List ℕ) (P : Command → Result Success �
   unfolding received
   receives = go (reading bytes) refl (reading-numbers bytes)
     where
-      go : (s : Result Packet) → reading bytes ≡ s → Among (1 ∷ 2 ∷ 3 ∷ 4 ∷ []) s → P Receive (takenIf f (payloadIn bytes) s)
+      go : (s : Result Packet) → reading bytes ≡ s → Among (1 ∷ 2 ∷ 3 ∷ 4 ∷ []) s
+          → P Receive (takenIf f (payloadIn bytes) s)
       go (ok p) e h = takes p e (p .body) refl
       go (refusal n) e h = k .refused Receive n (every-one (λ m. isAmong m (numbersOf Receive)) (1 ∷ 2 ∷ 3 ∷ 4 ∷ []) n refl (h .one n refl))
 

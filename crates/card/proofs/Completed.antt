@@ -39,18 +39,21 @@ module _ (f : Function) (bytes out : List ℕ) (c : Completion) (comes : Complet
   abbrev stateAfter : Function
   stateAfter = step f Receive bytes out .state
 
-  does-received : (Q : Success → Type 0) → Does Q (completed f c (payloadIn bytes)) → Does Q (calling f Receive bytes out)
+  does-received : (Q : Success → Type 0) → Does Q (completed f c (payloadIn bytes))
+      → Does Q (calling f Receive bytes out)
   unfolding calling received taken
   does-received Q k = rw (comes .reads, comes .body) (does-case Q (eqb (c .requester) (f .id)) (completed f c (payloadIn bytes)) (refusal 5) (λ e. k) (λ e. does-refusal Q 5))
 
   -- with E clear, for a stale request, and for a read, it changes no slot, nor the hand
-  pub completion-spares : ((q : PendingTranslation) → tagState (f .tags) (c .tag) ≡ Translate q → isLive f q ≡ false) → stateAfter .cache ≡ f .cache
+  pub completion-spares : ((q : PendingTranslation) → tagState (f .tags) (c .tag) ≡ Translate q → isLive f q ≡ false)
+      → stateAfter .cache ≡ f .cache
   completion-spares dead =
       commit-in (λ g. g .cache ≡ f .cache) f out (calling f Receive bytes out) refl
       (does-received _ (completed-keeps f c (payloadIn bytes) (λ k l p. k ≡ f .cache) (λ o. refl) (λ q o e live. absurd (never-both _ live (dead q e)))))
 
   -- a unit outside the range of its request gets no entry: it keeps its own, or loses it
-  pub completion-outside : Sound f → (unit : ℕ) → ((q : PendingTranslation) → tagState (f .tags) (c .tag) ≡ Translate q → Inside (translationRange q) unit → ⊥)
+  pub completion-outside : Sound f → (unit : ℕ)
+      → ((q : PendingTranslation) → tagState (f .tags) (c .tag) ≡ Translate q → Inside (translationRange q) unit → ⊥)
       → (found (stateAfter .cache) unit ≡ found (f .cache) unit) ⊎ (found (stateAfter .cache) unit ≡ Miss)
   completion-outside h unit outside =
       commit-in (λ g. (found (g .cache) unit ≡ found (f .cache) unit) ⊎ (found (g .cache) unit ≡ Miss)) f out (calling f Receive bytes out) (inl refl)
@@ -63,10 +66,12 @@ module _ (f : Function) (bytes out : List ℕ) (c : Completion) (comes : Complet
     pub read-ended : stateAfter ≡ withTag f (c .tag) Free
     read-ended = go (calling f Receive bytes out) (does-received _ (completed-read f c (payloadIn bytes) r held)) says
       where
-        go : (s : Result Success) → Does (Ended f c (payloadIn bytes) r) s → commit f out s .answer ≡ ok w → commit f out s .state ≡ withTag f (c .tag) Free
+        go : (s : Result Success) → Does (Ended f c (payloadIn bytes) r) s → commit f out s .answer ≡ ok w
+            → commit f out s .state ≡ withTag f (c .tag) Free
         go (ok d) k q = ⊎-elim (λ a. a) (λ a. absurd (ends (sym (ok-injective q) ∙ a .0))) (k .success d refl)
         go (refusal n) k q = impossible cc
 
     -- so that an ITag is ready then exactly where it waits and no other read delays it
-    pub ended-ready : Sound f → (i : ITag) → (isIn (readyOf stateAfter) i ≡ true) ↔ ((isIn (f .waiting) i ≡ true) × ((h : Delaying (f .tags) i) → h .tag .0 ≡ c .tag .0))
+    pub ended-ready : Sound f → (i : ITag)
+        → (isIn (readyOf stateAfter) i ≡ true) ↔ ((isIn (f .waiting) i ≡ true) × ((h : Delaying (f .tags) i) → h .tag .0 ≡ c .tag .0))
     ended-ready sound i = rw read-ended (freed-ready f i (c .tag) (sound .tags))

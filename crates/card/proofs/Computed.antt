@@ -1,4 +1,5 @@
--- What a call computes with. A proof by computation says `unfolding computed`, which unfolds all that stands in its line.
+-- What a call computes with. A proof by computation says `unfolding computed`, which
+-- unfolds all that stands in its line.
 use Prim.Native.Nat.{ℕ}
 use Rattle.lemmas.specs.All.{allBelow}
 use Rattle.lemmas.specs.First.{firstIndex}

@@ -51,7 +51,8 @@ effect-back r out = rw (answer-back (r .answer))
 
 -- two outcomes that are observed alike are equal
 pub observed-injective : (r q : Effect) (a b : List ℕ) → observed r a ≡ observed q b → (r ≡ q) × (a ≡ b)
-observed-injective r q a b e = (sym (effect-back r a) ∙ ap effectOf e ∙ effect-back q b, ap (λ (x : Observed). x .buffer) e)
+observed-injective r q a b e =
+    (sym (effect-back r a) ∙ ap effectOf e ∙ effect-back q b, ap (λ (x : Observed). x .buffer) e)
 
 goesOf : Result Target → Goes
 goesOf (ok t) = To t

@@ -36,11 +36,13 @@ use Rattle.card.specs.Sound.{SoundPages, SoundTables, Sound}
 use Rattle.card.proofs.Tables.{Completing, Stable, step-keeps}
 
 closed-sound : (p : Pages) → p .groups ≡ closedAll → p .allocation ≤ 512 → SoundPages p
-closed-sound p none few = record { groups = rw none none-long; granted = few; within = rw (none, none-usedCredits) (omega arith) }
+closed-sound p none few =
+    record { groups = rw none none-long; granted = few; within = rw (none, none-usedCredits) (omega arith) }
 
 -- a Function that is new, or was reset, is sound,
 pub fresh-sound : (id stu : ℕ) (rcb : Rcb) → Sound (fresh id stu rcb)
-fresh-sound id stu rcb = record { cache = laws .new-sound; tags = refl; pages = closed-sound switchedOff refl (lit≤ tt) }
+fresh-sound id stu rcb =
+    record { cache = laws .new-sound; tags = refl; pages = closed-sound switchedOff refl (lit≤ tt) }
 
 -- and every call keeps it so
 pub sound-invariant : (f : Function) (c : Command) (bytes out : List ℕ) → Sound f → Sound (step f c bytes out .state)
@@ -70,7 +72,8 @@ sound-invariant f c bytes out h = step-keeps f c bytes SoundTables kept out
 
 -- ---- what comes into the cache
 
--- an entry that a completion brings when it is received, while its tag is open for a Translation Request that is not stale and E is set
+-- an entry that a completion brings when it is received, while its tag is open for a Translation Request
+-- that is not stale and E is set
 pub record Came (f : Function) (c : Command) (bytes : List ℕ) (e : Entry) : Type 0 where
   pub completion : Completion
   pub comes : Completing c bytes completion
@@ -84,7 +87,8 @@ module _ (f : Function) (c : Command) (bytes out : List ℕ) where
   slotsAfter = step f c bytes out .state .cache
 
   -- after a call each slot holds what it held, or nothing, or what came so
-  pub slot-after : SoundCache (f .cache) → (i : ℕ) → (entryAt slotsAfter i ≡ entryAt (f .cache) i) ⊎ ((entryAt slotsAfter i ≡ noEntry) ⊎ Came f c bytes (entryAt slotsAfter i))
+  pub slot-after : SoundCache (f .cache) → (i : ℕ)
+      → (entryAt slotsAfter i ≡ entryAt (f .cache) i) ⊎ ((entryAt slotsAfter i ≡ noEntry) ⊎ Came f c bytes (entryAt slotsAfter i))
   slot-after sound i = step-keeps f c bytes (λ d l p. From (entryAt d i)) kept out
     where
       From : Entry → Type 0
@@ -107,10 +111,12 @@ module _ (f : Function) (c : Command) (bytes out : List ℕ) where
           }
 
   -- so that each unit has the entry that it had, or none, or one that came so
-  pub entry-after : Sound f → (unit : ℕ) → (found slotsAfter unit ≡ found (f .cache) unit) ⊎ ((found slotsAfter unit ≡ Miss) ⊎ ((x : Entry) × ((found slotsAfter unit ≡ Hit x) × Came f c bytes x)))
+  pub entry-after : Sound f → (unit : ℕ)
+      → (found slotsAfter unit ≡ found (f .cache) unit) ⊎ ((found slotsAfter unit ≡ Miss) ⊎ ((x : Entry) × ((found slotsAfter unit ≡ Hit x) × Came f c bytes x)))
   entry-after h unit = go (found slotsAfter unit) refl
     where
-      go : (r : Found) → found slotsAfter unit ≡ r → (found slotsAfter unit ≡ found (f .cache) unit) ⊎ ((found slotsAfter unit ≡ Miss) ⊎ ((x : Entry) × ((found slotsAfter unit ≡ Hit x) × Came f c bytes x)))
+      go : (r : Found) → found slotsAfter unit ≡ r
+          → (found slotsAfter unit ≡ found (f .cache) unit) ⊎ ((found slotsAfter unit ≡ Miss) ⊎ ((x : Entry) × ((found slotsAfter unit ≡ Hit x) × Came f c bytes x)))
       go Miss e = inr (inl e)
       go (Hit x) e =
           let s = laws .found-is slotsAfter (sound-invariant f c bytes out h .cache) unit x e in

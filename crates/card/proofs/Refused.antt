@@ -31,7 +31,8 @@ pub refused-keeps : (f : Function) (c : Command) (bytes out : List ℕ) (n : ℕ
     → (step f c bytes out .state ≡ f) × (step f c bytes out .sent ≡ 0) × (step f c bytes out .buffer ≡ out)
 refused-keeps f c bytes out n = go (calling f c bytes out)
   where
-    go : (s : Result Success) → commit f out s .answer ≡ refusal n → (commit f out s .state ≡ f) × (commit f out s .sent ≡ 0) × (commit f out s .buffer ≡ out)
+    go : (s : Result Success) → commit f out s .answer ≡ refusal n
+        → (commit f out s .state ≡ f) × (commit f out s .sent ≡ 0) × (commit f out s .buffer ≡ out)
     go (ok d) e = impossible cc
     go (refusal m) e = (refl, refl, refl)
 
@@ -88,10 +89,12 @@ calling-numbers : (f : Function) (c : Command) (bytes out : List ℕ) → Among 
 calling-numbers f c bytes out = cases f bytes out _ (fits-call f bytes out) c
 
 -- A call is refused with a number of its own list only,
-pub refused-with : (f : Function) (c : Command) (bytes out : List ℕ) (n : ℕ) → step f c bytes out .answer ≡ refusal n → isAmong n (numbersOf c) ≡ true
+pub refused-with : (f : Function) (c : Command) (bytes out : List ℕ) (n : ℕ) → step f c bytes out .answer ≡ refusal n
+    → isAmong n (numbersOf c) ≡ true
 refused-with f c bytes out n e = go (calling f c bytes out) (calling-numbers f c bytes out) e
   where
-    go : (s : Result Success) → Among (numbersOf c) s → commit f out s .answer ≡ refusal n → isAmong n (numbersOf c) ≡ true
+    go : (s : Result Success) → Among (numbersOf c) s → commit f out s .answer ≡ refusal n
+        → isAmong n (numbersOf c) ≡ true
     go (ok d) h q = impossible cc
     go (refusal m) h q = h .one n (let same : m ≡ n = cc in ap refusal same)
 
@@ -108,7 +111,8 @@ seventeen PagesOff = refl
 seventeen (PageRequests q) = refl
 
 -- so that it is one of the seventeen
-pub numbers : (f : Function) (c : Command) (bytes out : List ℕ) (n : ℕ) → step f c bytes out .answer ≡ refusal n → (1 ≤ n) × (n ≤ 17)
+pub numbers : (f : Function) (c : Command) (bytes out : List ℕ) (n : ℕ) → step f c bytes out .answer ≡ refusal n
+    → (1 ≤ n) × (n ≤ 17)
 numbers f c bytes out n e =
     let both = and-both (leb 1 n) (leb n 17) (every-one (λ m. leb 1 m && leb m 17) (numbersOf c) n (seventeen c) (refused-with f c bytes out n e)) in
     (leb-true 1 n (both .0), leb-true n 17 (both .1))

@@ -1,4 +1,5 @@
--- What the third demand needs of a machine: what each call does to six views of the state, in terms of what is seen of it.
+-- What the third demand needs of a machine: what each call does to six views of the state,
+-- in terms of what is seen of it.
 use mathlib.Core.Path.{_≡_}
 use mathlib.Core.Logic.{_⊎_}
 use mathlib.Core.Bool.{Bool, true, false, not, _&&_}
@@ -38,7 +39,8 @@ module _ {T : Terms} where
   -- nothing that is granted to the open request overlaps a
   abbrev pub Apart : T .Area → Option (Pending T) → Type 0
   Apart a none = Unit {0}
-  Apart a (some (translation q n)) = (k : ℕ) (d : T .Data) (e : T .Entry) → T .grants q k d e ≡ true → T .overlaps a e ≡ false
+  Apart a (some (translation q n)) =
+      (k : ℕ) (d : T .Data) (e : T .Entry) → T .grants q k d e ≡ true → T .overlaps a e ≡ false
   Apart a (some (fetch x b n)) = Unit {0}
 
 -- an entry that is held serves the access
@@ -58,14 +60,18 @@ pub record Step {T : Terms} (tags : ℕ) (v w : View T) (x : Seen T) : Type 0 wh
   pub entries : (j : ℕ) (e : T .Entry) → w .held j ≡ some e → (v .held j ≡ some e) ⊎ (fills v (x .took) e ≡ true)
   pub through : (b : T .Access) (k : ℕ) → reaches (x .sent) ≡ some (b, k) → Through v b k
   -- the ITags
-  pub waiting : (i : Ticket) → w .waiting i ≡ given (accepts i (x .took)) (λ a. true) (not (completes i (x .sent)) && v .waiting i)
+  pub waiting : (i : Ticket)
+      → w .waiting i ≡ given (accepts i (x .took)) (λ a. true) (not (completes i (x .sent)) && v .waiting i)
   pub waitsFor : (i : Ticket) (t : ℕ) → w .waiting i ≡ true
       → w .waitsFor i t ≡ given (accepts i (x .took)) (λ a. isOpen (readIn a (v .opens t))) (not (ends t (x .took) (v .opens t)) && v .waitsFor i t)
-  pub carried : (i : Ticket) → completes i (x .sent) ≡ (drains i (x .took) && (v .waiting i && noneBelow tags (v .waitsFor i)))
+  pub carried : (i : Ticket)
+      → completes i (x .sent) ≡ (drains i (x .took) && (v .waiting i && noneBelow tags (v .waitsFor i)))
   -- the agent: the one who sent the request, and no other later
   pub first : (i : Ticket) (a : T .Area) → accepts i (x .took) ≡ some a → w .agent ≡ some (i .agent)
   pub lasts : (g : ℕ) → v .agent ≡ some g → w .agent ≡ some g
   -- an accepted Invalidate Request
   pub notYet : (i : Ticket) (a : T .Area) → accepts i (x .took) ≡ some a → v .waiting i ≡ false
-  pub dropped : (i : Ticket) (a : T .Area) → accepts i (x .took) ≡ some a → (j : ℕ) (e : T .Entry) → w .held j ≡ some e → T .overlaps a e ≡ false
-  pub stale : (i : Ticket) (a : T .Area) → accepts i (x .took) ≡ some a → (t : ℕ) → w .live t ≡ true → Apart a (w .opens t)
+  pub dropped : (i : Ticket) (a : T .Area) → accepts i (x .took) ≡ some a → (j : ℕ) (e : T .Entry) → w .held j ≡ some e
+      → T .overlaps a e ≡ false
+  pub stale : (i : Ticket) (a : T .Area) → accepts i (x .took) ≡ some a → (t : ℕ) → w .live t ≡ true
+      → Apart a (w .opens t)

@@ -26,7 +26,8 @@ none-not zero f t h e = absurd (omega arith)
 none-not (suc n) f t h e = byCases (f n) (λ q. rw q refl) (λ q. rw q (none-not n f t (other-than q) e))
   where
     other-than : f n ≡ false → t < n
-    other-than q = byCases (eqb t n) (λ p. no-tf (sym e ∙ (ap f (eqb-true t n p) ∙ q))) (λ p. omega (arith, eqb-false t n p))
+    other-than q =
+        byCases (eqb t n) (λ p. no-tf (sym e ∙ (ap f (eqb-true t n p) ∙ q))) (λ p. omega (arith, eqb-false t n p))
 
 -- a drain call, and a ticket that waits or not
 drain-waits : (y W : Bool) → (not y && W) ≡ (not (W && y) && W)
@@ -63,12 +64,14 @@ module _ {T : Terms} where
   taken-was t k (some o) e = refl
 
   -- what does not end stays open, and what ends does not
-  taken-stays : (t : ℕ) (k : Option (Taken T)) (o : Option (Pending T)) → isOpen (onTaken t k o) ≡ (not (ends t k o) && isOpen o)
+  taken-stays : (t : ℕ) (k : Option (Taken T)) (o : Option (Pending T))
+      → isOpen (onTaken t k o) ≡ (not (ends t k o) && isOpen o)
   taken-stays t k none = rw (taken-none t k) (sym (and-false (not (ends t k none))))
   taken-stays t none (some o) = refl
   taken-stays t (some (CPL u d)) (some o) = go (eqb t u)
     where
-      go : (b : Bool) → isOpen (cond b (leaves d (some o)) (some o)) ≡ (not (b && not (isOpen (leaves d (some o)))) && true)
+      go : (b : Bool)
+          → isOpen (cond b (leaves d (some o)) (some o)) ≡ (not (b && not (isOpen (leaves d (some o)))) && true)
       go true = two (isOpen (leaves d (some o)))
         where
           two : (x : Bool) → x ≡ (not (not x) && true)
@@ -78,7 +81,8 @@ module _ {T : Terms} where
   taken-stays t (some (INV i a)) (some o) = refl
   taken-stays t (some (DRAIN n)) (some o) = refl
 
-  accepts-taken : (i : Ticket) (a : T .Area) (t : ℕ) (k : Option (Taken T)) (o : Option (Pending T)) → accepts i k ≡ some a → onTaken t k o ≡ o
+  accepts-taken : (i : Ticket) (a : T .Area) (t : ℕ) (k : Option (Taken T)) (o : Option (Pending T))
+      → accepts i k ≡ some a → onTaken t k o ≡ o
   accepts-taken i a t none o e = refl
   accepts-taken i a t (some (CPL u d)) o e = no-some e
   accepts-taken i a t (some (INV k b)) o e = refl
@@ -107,7 +111,8 @@ module _ {T : Terms} where
       go true o p = refl
       go false o p = no-tf (sym p)
 
-  apart-taken : (a : T .Area) (t : ℕ) (k : Option (Taken T)) (o : Option (Pending T)) → Apart a o → Apart a (onTaken t k o)
+  apart-taken : (a : T .Area) (t : ℕ) (k : Option (Taken T)) (o : Option (Pending T)) → Apart a o
+      → Apart a (onTaken t k o)
   apart-taken a t none o p = p
   apart-taken a t (some (CPL u d)) o p = at-tag (eqb t u)
     where
@@ -118,7 +123,8 @@ module _ {T : Terms} where
       after-less : (d : Option (T .Data)) (o : Option (Pending T)) → Apart a o → Apart a (leaves d o)
       after-less d none p = tt
       after-less none (some o) p = tt
-      after-less (some d) (some (translation q n)) p = kept (eqb (T .count d) (T .size d)) (translation q (n + T .size d)) p
+      after-less (some d) (some (translation q n)) p =
+          kept (eqb (T .count d) (T .size d)) (translation q (n + T .size d)) p
       after-less (some d) (some (fetch x b n)) p = either-case (Apart a) (eqb (T .count d) n) _ _ (λ e. kept (leb n (T .size d)) (fetch x b (n - T .size d)) tt) (λ e. tt)
 
       at-tag : (b : Bool) → Apart a (cond b (leaves d o) o)
@@ -127,7 +133,8 @@ module _ {T : Terms} where
   apart-taken a t (some (INV i b)) o p = p
   apart-taken a t (some (DRAIN n)) o p = p
 
-  apart-gave : (a : T .Area) (o : Option (Pending T)) → Apart a o → (e : T .Entry) (d : T .Data) → gave e d o ≡ true → T .overlaps a e ≡ false
+  apart-gave : (a : T .Area) (o : Option (Pending T)) → Apart a o → (e : T .Entry) (d : T .Data) → gave e d o ≡ true
+      → T .overlaps a e ≡ false
   apart-gave a none p e d g = no-tf (sym g)
   apart-gave a (some (translation q n)) p e d g = p n d e g
   apart-gave a (some (fetch x b n)) p e d g = no-tf (sym g)
@@ -160,14 +167,16 @@ module _ {T : Terms} (tags : ℕ) where
       drain i = drains i (x .took) && noneBelow tags (λ t. isOpen (older i t h))
 
       older-open : (i : Ticket) (t : ℕ) → v .waiting i ≡ true → isOpen (older i t h) ≡ v .waitsFor i t
-      older-open i t e = ap isOpen (R .older i t e) ∙ byCases (v .waitsFor i t) (λ p. rw p (R .noted i t e p)) (λ p. rw p refl)
+      older-open i t e =
+          ap isOpen (R .older i t e) ∙ byCases (v .waitsFor i t) (λ p. rw p (R .noted i t e p)) (λ p. rw p refl)
 
       carried : (i : Ticket) → completes i (x .sent) ≡ (waits tags i h && drain i)
       unfolding drain
       carried i = q .carried i ∙ (rw (R .waiting i) (byCases (v .waiting i)
           (λ p. rw (p, none-cong tags (λ t. isOpen (older i t h)) (v .waitsFor i) (λ t. older-open i t p)) refl) (λ p. rw p (and-false (drains i (x .took))))))
 
-      told-older : (i : Ticket) (t : ℕ) → w .waiting i ≡ true → older i t (x ∷ h) ≡ cond (w .waitsFor i t) (w .opens t) none
+      told-older : (i : Ticket) (t : ℕ) → w .waiting i ≡ true
+          → older i t (x ∷ h) ≡ cond (w .waitsFor i t) (w .opens t) none
       told-older i t e = rw (q .waitsFor i t e, R .opens t) (go (accepts i (x .took)) refl)
         where
           go : (o : Option (T .Area)) → accepts i (x .took) ≡ o
@@ -178,14 +187,16 @@ module _ {T : Terms} (tags : ℕ) where
               (λ p. rw p (shut (readIn a (v .opens t)) p))
           go none n = rw (R .older i t (was i n e)) (byCases (v .waitsFor i t) (λ p. rw p (noted (R .noted i t (was i n e) p))) (λ p. rw (p, and-false) (taken-none t (x .took))))
             where
-              noted : isOpen (v .opens t) ≡ true → onTaken t (x .took) (v .opens t) ≡ cond (not (ends t (x .took) (v .opens t)) && true) (w .opens t) none
+              noted : isOpen (v .opens t) ≡ true
+                  → onTaken t (x .took) (v .opens t) ≡ cond (not (ends t (x .took) (v .opens t)) && true) (w .opens t) none
               noted o = byCases (ends t (x .took) (v .opens t)) (λ p. rw p (shut _ (rw p at (taken-stays t (x .took) (v .opens t))))) (λ p. rw p (sym (stays t o)))
 
       told-noted : (i : Ticket) (t : ℕ) → w .waiting i ≡ true → w .waitsFor i t ≡ true → isOpen (w .opens t) ≡ true
       told-noted i t e f = go (accepts i (x .took)) refl (rw (q .waitsFor i t e) at f)
         where
           go : (o : Option (T .Area)) → accepts i (x .took) ≡ o
-              → given o (λ a. isOpen (readIn a (v .opens t))) (not (ends t (x .took) (v .opens t)) && v .waitsFor i t) ≡ true → isOpen (w .opens t) ≡ true
+              → given o (λ a. isOpen (readIn a (v .opens t))) (not (ends t (x .took) (v .opens t)) && v .waitsFor i t) ≡ true
+              → isOpen (w .opens t) ≡ true
           go (some a) n p =
               let o : isOpen (v .opens t) ≡ true = ap isOpen (sym (read-is a (v .opens t) p)) ∙ p in
               rw (stays t o, accepts-taken i a t (x .took) (v .opens t) n) o
@@ -206,7 +217,8 @@ module _ {T : Terms} (tags : ℕ) where
       told-agent : (i : Ticket) → 0 < requests i (x ∷ h) → w .agent ≡ some (i .agent)
       told-agent i more = go (accepts i (x .took)) refl more
         where
-          go : (o : Option (T .Area)) → accepts i (x .took) ≡ o → 0 < given o (λ a. 1) 0 + requests i h → w .agent ≡ some (i .agent)
+          go : (o : Option (T .Area)) → accepts i (x .took) ≡ o → 0 < given o (λ a. 1) 0 + requests i h
+              → w .agent ≡ some (i .agent)
           go (some a) n m = q .first i a n
           go none n m = q .lasts (i .agent) (R .agent i (omega (arith, m)))
 
@@ -223,7 +235,8 @@ module _ {T : Terms} (tags : ℕ) where
         agent = told-agent;
       }
 
-  -- An Invalidate Request of ticket i and area a was accepted; old t is the overlapping translated read of tag t that was then open. h was seen since.
+  -- An Invalidate Request of ticket i and area a was accepted; old t is the overlapping translated read of tag t that
+  -- was then open. h was seen since.
   module _ (i : Ticket) (a : T .Area) (old : ℕ → Option (Pending T)) where
     -- while such a read is open: it is the one in the table, the ticket waits for it, and no completion was sent
     pub record Held (v : View T) (h : List (Seen T)) (t : ℕ) : Type 0 where
@@ -240,11 +253,13 @@ module _ {T : Terms} (tags : ℕ) where
       new-ticket : (t : ℕ) → w .live t ≡ true → (openAt t (x ∷ h) ≡ w .opens t) ⊎ Apart a (w .opens t)
       new-ticket t l = byCases (uses t (x .sent)) (λ p. inl (sent-new t (x .sent) _ _ p ∙ sym (q .opens t))) (λ p. lived p (q .live t l))
         where
-          known : uses t (x .sent) ≡ false → (openAt t h ≡ v .opens t) ⊎ Apart a (v .opens t) → (openAt t (x ∷ h) ≡ w .opens t) ⊎ Apart a (w .opens t)
+          known : uses t (x .sent) ≡ false → (openAt t h ≡ v .opens t) ⊎ Apart a (v .opens t)
+              → (openAt t (x ∷ h) ≡ w .opens t) ⊎ Apart a (w .opens t)
           known p (inl e) = inl (rw e (sym (q .opens t)))
           known p (inr z) = inr (rw (q .opens t, sent-other t (x .sent) (onTaken t (x .took) (v .opens t)) p) (apart-taken a t (x .took) (v .opens t) z))
 
-          lived : uses t (x .sent) ≡ false → (v .live t ≡ true) ⊎ (uses t (x .sent) ≡ true) → (openAt t (x ∷ h) ≡ w .opens t) ⊎ Apart a (w .opens t)
+          lived : uses t (x .sent) ≡ false → (v .live t ≡ true) ⊎ (uses t (x .sent) ≡ true)
+              → (openAt t (x ∷ h) ≡ w .opens t) ⊎ Apart a (w .opens t)
           lived p (inl y) = known p (I .tickets t y)
           lived p (inr u) = no-tf (sym u ∙ p)
 
@@ -290,7 +305,8 @@ module _ {T : Terms} (tags : ℕ) where
       filled e (some (DRAIN n)) o f = f
 
     -- the moment the request is accepted
-    start : (v w : View T) (x : Seen T) → Step tags v w x → (h : List (Seen T)) → Told v h → accepts i (x .took) ≡ some a
+    start : (v w : View T) (x : Seen T) → Step tags v w x → (h : List (Seen T)) → Told v h
+        → accepts i (x .took) ≡ some a
         → ((t : ℕ) → old t ≡ readIn a (openAt t h)) → Since w []
     start v w x q h R n f = record {
       tickets = λ t l. inr (q .stale i a n t l);
@@ -315,15 +331,18 @@ pub record Blank {T : Terms} (v : View T) : Type 0 where
   pub opens : (t : ℕ) → v .opens t ≡ none
   pub waiting : (i : Ticket) → v .waiting i ≡ false
 
--- Views of a machine's states that its calls keep the laws of. Ok: what holds of every state that is reached from an accepted reset or from new.
+-- Views of a machine's states that its calls keep the laws of. Ok: what holds of every state that is reached from
+-- an accepted reset or from new.
 pub record Lawful {T : Terms} {R : Observer T} (M : Machine R) : Type 1 where
   pub view : Bench M → View T
   pub held : (s : Bench M) (j : ℕ) → M .held (s .fn) j ≡ view s .held j
   pub Ok : Bench M → Type 0
   pub keeps : (s : Bench M) (c : R .Call) → resets M s c ≡ false → Ok s → Ok (next M s c)
-  pub law : (s : Bench M) (c : R .Call) → resets M s c ≡ false → Ok s → Step (R .tags) (view s) (view (next M s c)) (seen M s c)
+  pub law : (s : Bench M) (c : R .Call) → resets M s c ≡ false → Ok s
+      → Step (R .tags) (view s) (view (next M s c)) (seen M s c)
   pub legible : (s : Bench M) (c : R .Call) → resets M s c ≡ false → Ok s → R .isPacket (s .notes) (packet M s c) ≡ true
-  pub apart : (s : Bench M) (c : R .Call) → resets M s c ≡ false → Ok s → (i : Ticket) (a : T .Area) → accepts i (seen M s c .took) ≡ some a → packet M s c ≡ []
+  pub apart : (s : Bench M) (c : R .Call) → resets M s c ≡ false → Ok s → (i : Ticket) (a : T .Area)
+      → accepts i (seen M s c .took) ≡ some a → packet M s c ≡ []
   pub silent : (s : Bench M) (c : R .Call) → resets M s c ≡ true → packet M s c ≡ []
   pub reset : (s : Bench M) (c : R .Call) → resets M s c ≡ true → Ok (next M s c) × Blank (view (next M s c))
   pub new : Ok (record { fn = M .new; notes = R .atFirst }) × Blank (view (record { fn = M .new; notes = R .atFirst }))
@@ -334,10 +353,12 @@ module _ {T : Terms} {R : Observer T} (M : Machine R) where
   broughtIn e s [] = false
   broughtIn e s (c ∷ cs) = brings e (seen M (stateAfter M s cs) c .took) (history M s cs) || broughtIn e s cs
 
-  pub brought : (j : ℕ) (e : T .Entry) (s : Bench M) (cs : List (R .Call)) → CameFrom M j e s cs → broughtIn e s cs ≡ true
+  pub brought : (j : ℕ) (e : T .Entry) (s : Bench M) (cs : List (R .Call)) → CameFrom M j e s cs
+      → broughtIn e s cs ≡ true
   brought j e s [] z = absurd z
   brought j e s (c ∷ cs) (inl p) = rw p refl
-  brought j e s (c ∷ cs) (inr p) = rw (brought j e s cs (p .1)) (or-true (brings e (seen M (stateAfter M s cs) c .took) (history M s cs)))
+  brought j e s (c ∷ cs) (inr p) =
+      rw (brought j e s cs (p .1)) (or-true (brings e (seen M (stateAfter M s cs) c .took) (history M s cs)))
 
 module _ {T : Terms} {R : Observer T} (M : Machine R) (L : Lawful M) where
   pub ok-run : (s : Bench M) (cs : List (R .Call)) → L .Ok s → Unbroken M s cs → L .Ok (stateAfter M s cs)
@@ -358,17 +379,20 @@ module _ {T : Terms} {R : Observer T} (M : Machine R) (L : Lawful M) where
     -- since a request of ticket i and area a
     module _ (i : Ticket) (a : T .Area) (old : ℕ → Option (Pending T)) (g : List (Seen T)) (D : Told (R .tags) (L .view s) g)
         (I : Since (R .tags) i a old (L .view s) []) (none-yet : (j : ℕ) (e : T .Entry) → L .view s .held j ≡ some e → T .overlaps a e ≡ false) where
-      since-from : (cs : List (R .Call)) → Unbroken M s cs → Since (R .tags) i a old (L .view (stateAfter M s cs)) (history M s cs)
+      since-from : (cs : List (R .Call)) → Unbroken M s cs
+          → Since (R .tags) i a old (L .view (stateAfter M s cs)) (history M s cs)
       since-from [] u = I
       since-from (c ∷ cs) u = since (R .tags) i a old _ _ (seen M (stateAfter M s cs) c) (effect s cs c k u) (history M s cs ++ g) (history M s cs)
           (told-from g D cs (u .1)) (since-from cs (u .1))
 
-      came-from : (cs : List (R .Call)) → Unbroken M s cs → (j : ℕ) (e : T .Entry) → T .overlaps a e ≡ true → M .held (stateAfter M s cs .fn) j ≡ some e → CameFrom M j e s cs
+      came-from : (cs : List (R .Call)) → Unbroken M s cs → (j : ℕ) (e : T .Entry) → T .overlaps a e ≡ true
+          → M .held (stateAfter M s cs .fn) j ≡ some e → CameFrom M j e s cs
       came-from [] u j e o p = no-tf (sym o ∙ none-yet j e (sym (L .held s j) ∙ p))
       came-from (c ∷ cs) u j e o p = go (came-from cs (u .1) j e o) (effect s cs c k u .entries j e (sym (L .held (next M (stateAfter M s cs) c) j) ∙ p))
         where
           go : (M .held (stateAfter M s cs .fn) j ≡ some e → CameFrom M j e s cs)
-              → (L .view (stateAfter M s cs) .held j ≡ some e) ⊎ (fills (L .view (stateAfter M s cs)) (seen M (stateAfter M s cs) c .took) e ≡ true) → CameFrom M j e s (c ∷ cs)
+              → (L .view (stateAfter M s cs) .held j ≡ some e) ⊎ (fills (L .view (stateAfter M s cs)) (seen M (stateAfter M s cs) c .took) e ≡ true)
+              → CameFrom M j e s (c ∷ cs)
           go f (inl y) = inr (L .held (stateAfter M s cs) j ∙ y, f (L .held (stateAfter M s cs) j ∙ y))
           go f (inr y) = inl (filled (R .tags) i a old _ _ (seen M (stateAfter M s cs) c) (effect s cs c k u) (history M s cs ++ g) (history M s cs)
               (told-from g D cs (u .1)) (since-from cs (u .1)) e (seen M (stateAfter M s cs) c .took) o y)
@@ -385,7 +409,8 @@ module _ {T : Terms} {R : Observer T} (M : Machine R) (L : Lawful M) where
       agent = λ i h. absurd (omega (arith, h));
     }
 
-    pub told-run : (cs : List (R .Call)) → Unbroken M s cs → Told (R .tags) (L .view (stateAfter M s cs)) (history M s cs)
+    pub told-run : (cs : List (R .Call)) → Unbroken M s cs
+        → Told (R .tags) (L .view (stateAfter M s cs)) (history M s cs)
     told-run cs u = rw append-nil at (told-from s (start-ok .0) [] told-blank cs u)
 
     module _ (before : List (R .Call)) (c : R .Call) (since : List (R .Call)) (i : Ticket) (a : T .Area) (z : Arrived M s before c since i a) where
@@ -417,7 +442,8 @@ module _ {T : Terms} {R : Observer T} (M : Machine R) (L : Lawful M) where
       new-entries j e p o = came-from now now-ok i a old (history M s (c ∷ before)) now-told now-since (its .dropped i a (z .accepted)) since (z .goesOn) j e o p
 
       -- an old read that is open still holds the completion back
-      held-back : (t : ℕ) → isOpen (remains t (history M (stateAfter M s (c ∷ before)) since) (readIn a (openAt t (history M s before)))) ≡ true
+      held-back : (t : ℕ)
+          → isOpen (remains t (history M (stateAfter M s (c ∷ before)) since) (readIn a (openAt t (history M s before)))) ≡ true
           → completions i (history M (stateAfter M s (c ∷ before)) since) ≡ 0
       unfolding now old
       held-back t o = now-end .reads t o .unsent
@@ -425,14 +451,17 @@ module _ {T : Terms} {R : Observer T} (M : Machine R) (L : Lawful M) where
           now-end : Since (R .tags) i a old (L .view (stateAfter M now since)) (history M now since)
           now-end = since-from now now-ok i a old (history M s (c ∷ before)) now-told now-since (its .dropped i a (z .accepted)) since (z .goesOn)
 
-    no-old-read : (before : List (R .Call)) (c : R .Call) (since : List (R .Call)) (i : Ticket) (a : T .Area) → Completed M s before c since i a → NoOldRead M s before c since a
+    no-old-read : (before : List (R .Call)) (c : R .Call) (since : List (R .Call)) (i : Ticket) (a : T .Area)
+        → Completed M s before c since i a → NoOldRead M s before c since a
     no-old-read before c since i a z t = byCases (isOpen (remains t (history M (stateAfter M s (c ∷ before)) since) (readIn a (openAt t (history M s before)))))
         (λ o. absurd (omega (arith, held-back before c since i a (z .arrived) t o, z .sent))) (λ o. shut _ o)
 
-    one-agent : (cs : List (R .Call)) → Unbroken M s cs → (i k : Ticket) → 0 < requests i (history M s cs) → 0 < requests k (history M s cs) → i .agent ≡ k .agent
+    one-agent : (cs : List (R .Call)) → Unbroken M s cs → (i k : Ticket) → 0 < requests i (history M s cs)
+        → 0 < requests k (history M s cs) → i .agent ≡ k .agent
     one-agent cs u i k m n = some-one (sym (told-run cs u .agent i m) ∙ told-run cs u .agent k n)
 
-    served : (cs : List (R .Call)) (c : R .Call) → Unbroken M s (c ∷ cs) → (b : T .Access) (k : ℕ) → reaches (seen M (stateAfter M s cs) c .sent) ≡ some (b, k) → Served M (stateAfter M s cs .fn) b k
+    served : (cs : List (R .Call)) (c : R .Call) → Unbroken M s (c ∷ cs) → (b : T .Access) (k : ℕ)
+        → reaches (seen M (stateAfter M s cs) c .sent) ≡ some (b, k) → Served M (stateAfter M s cs .fn) b k
     served cs c u b k e =
         let t = effect s cs c (start-ok .0) u .through b k e in
         record { slot = t .slot; entry = t .entry; held = L .held (stateAfter M s cs) (t .slot) ∙ t .held; serves = t .serves }

@@ -76,7 +76,8 @@ pub data Sent (T : Terms) : Type 0 where
   -- an Invalidate Completion to this agent, for the ITags of these numbers
   IC : ℕ → (ℕ → Bool) → Sent T
 
--- What is seen of a call. Neither part hides the other: `none` where it brought none of those or was refused, and where it sent none of those.
+-- What is seen of a call. Neither part hides the other: `none` where it brought none of those or was refused,
+-- and where it sent none of those.
 pub record Seen (T : Terms) : Type 0 where
   pub took : Option (Taken T)
   pub sent : Option (Sent T)
@@ -93,12 +94,15 @@ module _ {T : Terms} where
   isOpen none = false
   isOpen (some o) = true
 
-  -- what a completion leaves open: one without data nothing; of a read, what is due beyond its bytes, where it says how many are due
+  -- what a completion leaves open: one without data nothing; of a read, what is due beyond its bytes,
+  -- where it says how many are due
   abbrev pub leaves : Option (T .Data) → Option (Pending T) → Option (Pending T)
   leaves d none = none
   leaves none (some o) = none
-  leaves (some d) (some (translation q n)) = cond (eqb (T .count d) (T .size d)) none (some (translation q (n + T .size d)))
-  leaves (some d) (some (fetch x b n)) = cond (eqb (T .count d) n) (cond (leb n (T .size d)) none (some (fetch x b (n - T .size d)))) (some (fetch x b n))
+  leaves (some d) (some (translation q n)) =
+      cond (eqb (T .count d) (T .size d)) none (some (translation q (n + T .size d)))
+  leaves (some d) (some (fetch x b n)) =
+      cond (eqb (T .count d) n) (cond (leb n (T .size d)) none (some (fetch x b (n - T .size d)))) (some (fetch x b n))
 
   -- the open request o of tag t, after what a call took and after what it sent
   abbrev pub onTaken : ℕ → Option (Taken T) → Option (Pending T) → Option (Pending T)
@@ -177,12 +181,14 @@ module _ {T : Terms} where
   completions i [] = 0
   completions i (x ∷ h) = cond (completes i (x .sent)) 1 0 + completions i h
 
-  -- of the overlapping translated reads that were open when Ticket i's latest request came, that of tag t, while it is open still: what `remains` leaves of it, told from the whole history
+  -- of the overlapping translated reads that were open when Ticket i's latest request came, that of tag t, while it is
+  -- open still: what `remains` leaves of it, told from the whole history
   abbrev pub older : Ticket → ℕ → List (Seen T) → Option (Pending T)
   older i t [] = none
   older i t (x ∷ h) = given (accepts i (x .took)) (λ a. readIn a (openAt t h)) (onTaken t (x .took) (older i t h))
 
-  -- since Ticket i's latest request no unrefused drain call for it has come with all those reads closed (tags run below n)
+  -- since Ticket i's latest request no unrefused drain call for it has come with all those
+  -- reads closed (tags run below n)
   abbrev pub waits : ℕ → Ticket → List (Seen T) → Bool
   waits n i [] = false
   waits n i (x ∷ h) =
@@ -204,8 +210,8 @@ module _ {T : Terms} where
 
 -- ---- runs
 
--- How an observer reads a call: from its arguments, the bytes sent and notes of earlier calls. Of an answer it uses only whether it refuses, and the length
--- that it reports of the packet sent; of the state nothing.
+-- How an observer reads a call: from its arguments, the bytes sent and notes of earlier calls. Of an answer it uses
+-- only whether it refuses, and the length that it reports of the packet sent; of the state nothing.
 pub record Observer (T : Terms) : Type 1 where
   pub Call : Type 0
   pub Answer : Type 0
@@ -213,7 +219,8 @@ pub record Observer (T : Terms) : Type 1 where
   pub refused : Answer → Bool
   pub reported : Answer → ℕ
   pub isReset : Call → Bool
-  -- what the call brings, if it is not refused; what its packet is; what is noted of it, if it is not refused, and of a new Function
+  -- what the call brings, if it is not refused; what its packet is; what is noted of it, if it is not
+  -- refused, and of a new Function
   pub took : Notes → Call → Option (Taken T)
   pub sent : Notes → Call → List ℕ → Option (Sent T)
   pub note : Notes → Call → List ℕ → Notes
@@ -223,7 +230,8 @@ pub record Observer (T : Terms) : Type 1 where
   -- how many tags there are
   pub tags : ℕ
 
--- A machine: what a call does to its state, what it answers, and the bytes of the lent buffer at its end; and what slot j of its cache holds.
+-- A machine: what a call does to its state, what it answers, and the bytes of the lent buffer at its end; and
+-- what slot j of its cache holds.
 pub record Machine {T : Terms} (R : Observer T) : Type 1 where
   pub State : Type 0
   pub new : State
@@ -249,7 +257,8 @@ module _ {T : Terms} {R : Observer T} (M : Machine R) where
   packet s c = take (R .reported (M .answer (s .fn) c)) (M .buffer (s .fn) c)
 
   abbrev pub next : Bench M → R .Call → Bench M
-  next s c = record { fn = M .state (s .fn) c; notes = cond (refuses s c) (s .notes) (R .note (s .notes) c (packet s c)) }
+  next s c =
+      record { fn = M .state (s .fn) c; notes = cond (refuses s c) (s .notes) (R .note (s .notes) c (packet s c)) }
 
   abbrev pub seen : Bench M → R .Call → Seen T
   seen s c = record { took = cond (refuses s c) none (R .took (s .notes) c); sent = R .sent (s .notes) c (packet s c) }
@@ -268,8 +277,8 @@ module _ {T : Terms} {R : Observer T} (M : Machine R) where
   Unbroken s [] = Unit {0}
   Unbroken s (c ∷ cs) = (resets (stateAfter s cs) c ≡ false) × Unbroken s cs
 
-  -- The entry e of slot j came from a Translation Request that one of the calls cs sent: one of them took a completion for it whose data grant e,
-  -- and the slot has held e since.
+  -- The entry e of slot j came from a Translation Request that one of the calls cs sent: one of them took a completion
+  -- for it whose data grant e, and the slot has held e since.
   abbrev pub CameFrom : ℕ → T .Entry → Bench M → List (R .Call) → Type 0
   CameFrom j e s [] = ⊥
   CameFrom j e s (c ∷ cs) =
@@ -282,8 +291,8 @@ module _ {T : Terms} {R : Observer T} (M : Machine R) where
     pub held : M .held f slot ≡ some entry
     pub serves : T .serves entry b k ≡ true
 
-  -- After the calls `before`, made from s, the call c brought an Invalidate Request of this ticket for the area a, and it was accepted. Since then came the
-  -- calls `since`, with no reset among them all.
+  -- After the calls `before`, made from s, the call c brought an Invalidate Request of this ticket for the area a, and
+  -- it was accepted. Since then came the calls `since`, with no reset among them all.
   pub record Arrived (s : Bench M) (before : List (R .Call)) (c : R .Call) (since : List (R .Call)) (i : Ticket) (a : T .Area) : Type 0 where
     pub unbroken : Unbroken s (c ∷ before)
     pub accepted : accepts i (seen (stateAfter s before) c .took) ≡ some a
@@ -296,35 +305,48 @@ module _ {T : Terms} {R : Observer T} (M : Machine R) where
 
   -- each entry that overlaps the area came from a Translation Request sent since the request
   abbrev pub OnlyNewEntries : Bench M → List (R .Call) → R .Call → List (R .Call) → T .Area → Type 0
-  OnlyNewEntries s before c since a = (j : ℕ) (e : T .Entry) → M .held (stateAfter (stateAfter s (c ∷ before)) since .fn) j ≡ some e → T .overlaps a e ≡ true
+  OnlyNewEntries s before c since a =
+      (j : ℕ) (e : T .Entry) → M .held (stateAfter (stateAfter s (c ∷ before)) since .fn) j ≡ some e
+      → T .overlaps a e ≡ true
       → CameFrom j e (stateAfter s (c ∷ before)) since
 
   -- no translated read that overlaps the area and was sent before the request is open
   abbrev pub NoOldRead : Bench M → List (R .Call) → R .Call → List (R .Call) → T .Area → Type 0
-  NoOldRead s before c since a = (t : ℕ) → remains t (history (stateAfter s (c ∷ before)) since) (readIn a (openAt t (history s before))) ≡ none
+  NoOldRead s before c since a =
+      (t : ℕ) → remains t (history (stateAfter s (c ∷ before)) since) (readIn a (openAt t (history s before))) ≡ none
 
   -- The third demand, of all runs that begin at s.
   pub record OrderFrom (s : Bench M) : Type 0 where
     -- from the moment a completion is sent: only new entries, and no old read
-    pub entries : (before : List (R .Call)) (c : R .Call) (since : List (R .Call)) (i : Ticket) (a : T .Area) → Completed s before c since i a → OnlyNewEntries s before c since a
-    pub reads : (before : List (R .Call)) (c : R .Call) (since : List (R .Call)) (i : Ticket) (a : T .Area) → Completed s before c since i a → NoOldRead s before c since a
+    pub entries : (before : List (R .Call)) (c : R .Call) (since : List (R .Call)) (i : Ticket) (a : T .Area)
+        → Completed s before c since i a → OnlyNewEntries s before c since a
+    pub reads : (before : List (R .Call)) (c : R .Call) (since : List (R .Call)) (i : Ticket) (a : T .Area)
+        → Completed s before c since i a → NoOldRead s before c since a
     -- requests accepted are completions sent, and one more if the ticket waits
     pub counts : (calls : List (R .Call)) → Unbroken s calls → (i : Ticket)
         → requests i (history s calls) ≡ completions i (history s calls) + cond (waits (R .tags) i (history s calls)) 1 0
     -- all tickets are of one agent, so that what is counted is counted for each ITag
-    pub agent : (calls : List (R .Call)) → Unbroken s calls → (i k : Ticket) → 0 < requests i (history s calls) → 0 < requests k (history s calls) → i .agent ≡ k .agent
+    pub agent : (calls : List (R .Call)) → Unbroken s calls → (i k : Ticket) → 0 < requests i (history s calls)
+        → 0 < requests k (history s calls) → i .agent ≡ k .agent
     -- beyond the letter: the entries are new ones already from the moment the request arrives
-    pub sooner : (before : List (R .Call)) (c : R .Call) (since : List (R .Call)) (i : Ticket) (a : T .Area) → Arrived s before c since i a → OnlyNewEntries s before c since a
+    pub sooner : (before : List (R .Call)) (c : R .Call) (since : List (R .Call)) (i : Ticket) (a : T .Area)
+        → Arrived s before c since i a → OnlyNewEntries s before c since a
     -- every translated access goes through an entry that the cache held: so what is not in the slots is not used
-    pub through : (calls : List (R .Call)) (c : R .Call) → Unbroken s (c ∷ calls) → (b : T .Access) (k : ℕ) → reaches (seen (stateAfter s calls) c .sent) ≡ some (b, k)
+    pub through : (calls : List (R .Call)) (c : R .Call) → Unbroken s (c ∷ calls) → (b : T .Access) (k : ℕ)
+        → reaches (seen (stateAfter s calls) c .sent) ≡ some (b, k)
         → Served (stateAfter s calls .fn) b k
-    -- And no request, read or completion goes out unseen. A request goes out with one of the tags, and not with one that is open, so that a completion is for one request;
-    pub tags : (calls : List (R .Call)) (c : R .Call) → Unbroken s (c ∷ calls) → (t : ℕ) → uses t (seen (stateAfter s calls) c .sent) ≡ true
+    -- And no request, read or completion goes out unseen. A request goes out with one of the tags, and not with one
+    -- that is open, so that a completion is for one request;
+    pub tags : (calls : List (R .Call)) (c : R .Call) → Unbroken s (c ∷ calls) → (t : ℕ)
+        → uses t (seen (stateAfter s calls) c .sent) ≡ true
         → (t < R .tags) × (openAt t (history s calls) ≡ none)
     -- whatever is sent is a packet of the Function's;
-    pub legible : (calls : List (R .Call)) (c : R .Call) → Unbroken s (c ∷ calls) → R .isPacket (stateAfter s calls .notes) (packet (stateAfter s calls) c) ≡ true
-    -- and the call that accepts an Invalidate Request sends nothing, so that all that is sent goes out before it or after it
-    pub apart : (calls : List (R .Call)) (c : R .Call) → Unbroken s (c ∷ calls) → (i : Ticket) (a : T .Area) → accepts i (seen (stateAfter s calls) c .took) ≡ some a
+    pub legible : (calls : List (R .Call)) (c : R .Call) → Unbroken s (c ∷ calls)
+        → R .isPacket (stateAfter s calls .notes) (packet (stateAfter s calls) c) ≡ true
+    -- and the call that accepts an Invalidate Request sends nothing, so that all that is sent
+    -- goes out before it or after it
+    pub apart : (calls : List (R .Call)) (c : R .Call) → Unbroken s (c ∷ calls) → (i : Ticket) (a : T .Area)
+        → accepts i (seen (stateAfter s calls) c .took) ≡ some a
         → packet (stateAfter s calls) c ≡ []
 
   -- From any state and any notes, once a reset is accepted, and it sends nothing; and from a new Function.

@@ -59,7 +59,8 @@ module _ (q : PendingTranslation) (load : List ℕ) (fit : translationsFit q loa
       rw (size, less, le-leb (receivedCount q) (regionIndex (translationRange q .first) (exponentOr0 (commonSize q load)) (x .unit)) (omega (arith, here)), lt-ltb (b .word) (length load / 8) (b .carried), b .grants)
       (ap (λ (y : Entry). sameEntry x y) (sym (b .given)) ∙ same-self x)
 
-  pub brought-replied : (count : ℕ) → isReplied (askedBy q) (q .whole - q .due) (record { count = count; load = load }) (record { stu = stu; entry = x }) ≡ true
+  pub brought-replied : (count : ℕ)
+      → isReplied (askedBy q) (q .whole - q .due) (record { count = count; load = load }) (record { stu = stu; entry = x }) ≡ true
   brought-replied count = rw (eq-eqb stu stu refl, in-range, ← came-by q) granted
 
 -- and its translated address lies in 64 bits
@@ -77,7 +78,8 @@ module _ (me : Noted) (f : Function) (o : Ok me f) (t : Tag) (own : isTag t ≡ 
 
   -- what it does to E and the cache, and what the tag is open for then
   module _ (enabled : Bool) (cache : Cache) (after : TagState) where
-    pub left-step : (d : Option Reply) → pendingOf after ≡ leaves d (pendingOf b) → (liveOf after ≡ true → liveOf b ≡ true)
+    pub left-step : (d : Option Reply) → pendingOf after ≡ leaves d (pendingOf b)
+        → (liveOf after ≡ true → liveOf b ≡ true)
         → ((i : ITag) → isIn (delayedBy after) i ≡ (isOpen (leaves {T = terms} d (pendingOf b)) && isIn (delayedBy b) i))
         → ((j : ℕ) (e : Cached) → heldIn (left f t enabled cache after) j ≡ some e → (heldIn f j ≡ some e) ⊎ (fills (view f) (some (CPL (t .0) d)) e ≡ true))
         → Step 32 (view f) (view (left f t enabled cache after)) (record { took = some (CPL (t .0) d); sent = none })

@@ -90,7 +90,8 @@ module _ (me : Noted) (f : Function) (o : Ok me f) (bytes out : List ℕ) (ty : 
   abbrev left : Function
   left = withWaiting f (without (f .waiting) (readyOf f))
 
-  left-in : (i : ITag) → isIn (left .waiting) i ≡ (isIn (f .waiting) i && not (isIn (f .waiting) i && not (isIn (delayedItags (f .tags)) i)))
+  left-in : (i : ITag)
+      → isIn (left .waiting) i ≡ (isIn (f .waiting) i && not (isIn (f .waiting) i && not (isIn (delayedItags (f .tags)) i)))
   left-in i = in-without (f .waiting) (readyOf f) i ∙ ap (λ (r : Bool). isIn (f .waiting) i && not r) (ready-in i)
 
   left-ok : Ok me left
@@ -109,7 +110,8 @@ module _ (me : Noted) (f : Function) (o : Ok me f) (bytes out : List ℕ) (ty : 
         known = λ i e. o .known i (and-both (isIn (f .waiting) i) _ (sym (left-in i) ∙ e) .0);
       }
 
-  waits-for-none : (i : Ticket) → noneBelow 32 (view f .waitsFor i) ≡ not (isIn (delayedItags (f .tags)) (itag (i .number)))
+  waits-for-none : (i : Ticket)
+      → noneBelow 32 (view f .waitsFor i) ≡ not (isIn (delayedItags (f .tags)) (itag (i .number)))
   waits-for-none i = none-delayed (f .tags) (itag (i .number)) (o .tags)
 
   -- an ITag that nobody has sent yet is not ready
@@ -155,9 +157,11 @@ module _ (me : Noted) (f : Function) (o : Ok me f) (bytes out : List ℕ) (ty : 
         stale = λ i a p. no-some p;
       }
     where
-      carries-by : (g : Agent) → f .agent ≡ g → (i : Ticket) → (eqb (i .agent) (agentId g) && (ltb (i .number) 32 && (isIn (f .waiting) (itag (i .number)) && not (isIn (delayedItags (f .tags)) (itag (i .number))))))
+      carries-by : (g : Agent) → f .agent ≡ g → (i : Ticket)
+          → (eqb (i .agent) (agentId g) && (ltb (i .number) 32 && (isIn (f .waiting) (itag (i .number)) && not (isIn (delayedItags (f .tags)) (itag (i .number))))))
           ≡ ((isAgent g (i .agent) && (ltb (i .number) 32 && isIn (f .waiting) (itag (i .number)))) && not (isIn (delayedItags (f .tags)) (itag (i .number))))
-      carries-by Unknown e i = rw (unknown e (itag (i .number)), and-false (ltb (i .number) 32)) (and-false (eqb (i .agent) 0))
+      carries-by Unknown e i =
+          rw (unknown e (itag (i .number)), and-false (ltb (i .number) 32)) (and-false (eqb (i .agent) 0))
       carries-by (Known id) e i = regroup (eqb (i .agent) id) (ltb (i .number) 32) (isIn (f .waiting) (itag (i .number))) (isIn (delayedItags (f .tags)) (itag (i .number)))
 
       stays-by : (g : Agent) → f .agent ≡ g → (i : Ticket)

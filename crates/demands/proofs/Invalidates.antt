@@ -1,4 +1,5 @@
--- An Invalidate Request that is accepted: entries are dropped, requests marked stale and reads made to delay the ITag, at once.
+-- An Invalidate Request that is accepted: entries are dropped, requests marked stale and reads
+-- made to delay the ITag, at once.
 use mathlib.Core.Path.{_≡_, refl, sym, ap, _∙_}
 use mathlib.Core.Logic.{inl}
 use mathlib.Core.Bool.{Bool, true, false, not, cond, _&&_, _||_, and-false, or-true}
@@ -33,10 +34,13 @@ use Rattle.demands.proofs.Views.{tag, pendingOf, liveOf, agentOf, isAge
 use Rattle.demands.proofs.Marks.{invalidate-pending, invalidate-live, invalidate-delayed, invalidate-apart}
 
 -- what a slot holds is its entry, in use
-pub held-entry : (stu : ℕ) (x : Entry) (e : Cached) → cond {A = Option Cached} (x .used) (some (record { stu = stu; entry = x })) none ≡ some e → (x .used ≡ true) × (record { stu = stu; entry = x } ≡ e)
+pub held-entry : (stu : ℕ) (x : Entry) (e : Cached)
+    → cond {A = Option Cached} (x .used) (some (record { stu = stu; entry = x })) none ≡ some e
+    → (x .used ≡ true) × (record { stu = stu; entry = x } ≡ e)
 held-entry stu x e h = go (x .used) refl h
   where
-    go : (b : Bool) → x .used ≡ b → cond {A = Option Cached} b (some (record { stu = stu; entry = x })) none ≡ some e → (x .used ≡ true) × (record { stu = stu; entry = x } ≡ e)
+    go : (b : Bool) → x .used ≡ b → cond {A = Option Cached} b (some (record { stu = stu; entry = x })) none ≡ some e
+        → (x .used ≡ true) × (record { stu = stu; entry = x } ≡ e)
     go true u q = (u, cc)
     go false u q = no-some q
 
@@ -64,23 +68,29 @@ module _ (me : Noted) (f : Function) (o : Ok me f) (from : ℕ) (i : InvalidateR
   at-tag : (t : Tag) → tagState (gone .tags) t ≡ invalidatedIf range (i .itag) (tagState (f .tags) t)
   at-tag t = tagState-invalidated range (i .itag) (f .tags) t
 
-  slot-is : (j : ℕ) → entryAt (gone .cache) j ≡ cond (entryOverlaps (f .stu) range (entryAt (f .cache) j)) noEntry (entryAt (f .cache) j)
+  slot-is : (j : ℕ)
+      → entryAt (gone .cache) j ≡ cond (entryOverlaps (f .stu) range (entryAt (f .cache) j)) noEntry (entryAt (f .cache) j)
   slot-is j = laws .range-entry (f .stu) range (f .cache) (o .cache) j
 
-  slot-dropped : (j : ℕ) → entryOverlaps (f .stu) range (entryAt (f .cache) j) ≡ true → entryAt (gone .cache) j ≡ noEntry
+  slot-dropped : (j : ℕ) → entryOverlaps (f .stu) range (entryAt (f .cache) j) ≡ true
+      → entryAt (gone .cache) j ≡ noEntry
   slot-dropped j u = slot-is j ∙ rw u refl
 
-  slot-left : (j : ℕ) → entryOverlaps (f .stu) range (entryAt (f .cache) j) ≡ false → entryAt (gone .cache) j ≡ entryAt (f .cache) j
+  slot-left : (j : ℕ) → entryOverlaps (f .stu) range (entryAt (f .cache) j) ≡ false
+      → entryAt (gone .cache) j ≡ entryAt (f .cache) j
   slot-left j u = slot-is j ∙ rw u refl
 
   apart : (j : ℕ) → entryOverlaps (f .stu) range (entryAt (gone .cache) j) ≡ false
   apart j = rw (slot-is j) (byCases (entryOverlaps (f .stu) range (entryAt (f .cache) j)) (λ u. rw u) (λ u. rw u u))
 
   -- a marked Translation Request has come as far as it had
-  invalidated-begun : (t : Tag) (q : PendingTranslation) (x : TagState) → tagState (f .tags) t ≡ x → invalidatedIf range (i .itag) x ≡ Translate q → (q .stu ≡ f .stu) × (q .due ≡ 0 → q .whole ≡ 0)
-  invalidated-begun t q x h e = byCases (pendingOverlaps range x) (λ u. mark x h (rw u at e)) (λ u. o .begun t q (h ∙ (rw u at e)))
+  invalidated-begun : (t : Tag) (q : PendingTranslation) (x : TagState) → tagState (f .tags) t ≡ x
+      → invalidatedIf range (i .itag) x ≡ Translate q → (q .stu ≡ f .stu) × (q .due ≡ 0 → q .whole ≡ 0)
+  invalidated-begun t q x h e =
+      byCases (pendingOverlaps range x) (λ u. mark x h (rw u at e)) (λ u. o .begun t q (h ∙ (rw u at e)))
     where
-      mark : (x : TagState) → tagState (f .tags) t ≡ x → invalidatedState (i .itag) x ≡ Translate q → (q .stu ≡ f .stu) × (q .due ≡ 0 → q .whole ≡ 0)
+      mark : (x : TagState) → tagState (f .tags) t ≡ x → invalidatedState (i .itag) x ≡ Translate q
+          → (q .stu ≡ f .stu) × (q .due ≡ 0 → q .whole ≡ 0)
       mark Free h e = impossible cc
       mark (Translate p) h e =
           let w : p .whole ≡ q .whole = cc in
@@ -112,10 +122,12 @@ module _ (me : Noted) (f : Function) (o : Ok me f) (from : ℕ) (i : InvalidateR
       still false w false x h e = no-tf (sym e)
 
   -- who else waited is the agent's: there was none, or it is this one
-  agreed : (k : Ticket) → isIn (f .waiting) (itag (k .number)) ≡ true → isAgent (Known from) (k .agent) ≡ isAgent (f .agent) (k .agent)
+  agreed : (k : Ticket) → isIn (f .waiting) (itag (k .number)) ≡ true
+      → isAgent (Known from) (k .agent) ≡ isAgent (f .agent) (k .agent)
   agreed k w = go (f .agent) refl ours
     where
-      go : (g : Agent) → f .agent ≡ g → isOtherAgent g from ≡ false → isAgent (Known from) (k .agent) ≡ isAgent g (k .agent)
+      go : (g : Agent) → f .agent ≡ g → isOtherAgent g from ≡ false
+          → isAgent (Known from) (k .agent) ≡ isAgent g (k .agent)
       go Unknown e u = absurd (o .known (itag (k .number)) w e)
       go (Known id) e u = ap (λ (x : ℕ). eqb (k .agent) x) (sym (eqb-true id from (not-false (eqb id from) u)))
 
@@ -123,7 +135,8 @@ module _ (me : Noted) (f : Function) (o : Ok me f) (from : ℕ) (i : InvalidateR
   mine : (k : Ticket) → eqb (k .number) (bitIndex (i .itag)) ≡ true → isListed (f .waiting) (k .number) ≡ false
   mine k e = rw (eqb-true (k .number) (bitIndex (i .itag)) e, in-bitIndex (f .waiting) (i .itag), idle) (and-false (ltb (bitIndex (i .itag)) 32))
 
-  other : (k : Ticket) → eqb (k .number) (bitIndex (i .itag)) ≡ false → ltb (k .number) 32 ≡ true → eqb (bitIndex (i .itag)) (bitIndex (itag (k .number))) ≡ false
+  other : (k : Ticket) → eqb (k .number) (bitIndex (i .itag)) ≡ false → ltb (k .number) 32 ≡ true
+      → eqb (bitIndex (i .itag)) (bitIndex (itag (k .number))) ≡ false
   other k e l = rw (place-is (k .number) (ltb-true (k .number) 32 l)) (ne-eqb (bitIndex (i .itag)) (k .number) (λ z. eqb-false (k .number) (bitIndex (i .itag)) e (sym z)))
 
   listed-mine : (k : Ticket) → eqb (k .number) (bitIndex (i .itag)) ≡ true → isListed (gone .waiting) (k .number) ≡ true
@@ -131,7 +144,8 @@ module _ (me : Noted) (f : Function) (o : Ok me f) (from : ℕ) (i : InvalidateR
       let n = eqb-true (k .number) (bitIndex (i .itag)) e in
       rw (n, lt-ltb (bitIndex (i .itag)) 32 (place-lt (i .itag)), in-withItag (f .waiting) (i .itag) (itag (bitIndex (i .itag))), place-is (bitIndex (i .itag)) (place-lt (i .itag)), eq-eqb (bitIndex (i .itag)) (bitIndex (i .itag)) refl) (or-true (isIn (f .waiting) (itag (bitIndex (i .itag)))))
 
-  listed-other : (k : Ticket) → eqb (k .number) (bitIndex (i .itag)) ≡ false → isListed (gone .waiting) (k .number) ≡ isListed (f .waiting) (k .number)
+  listed-other : (k : Ticket) → eqb (k .number) (bitIndex (i .itag)) ≡ false
+      → isListed (gone .waiting) (k .number) ≡ isListed (f .waiting) (k .number)
   listed-other k e = byCases (ltb (k .number) 32) (λ l. rw (l, in-withItag (f .waiting) (i .itag) (itag (k .number)), other k e l) (or-no _)) (λ l. rw l refl)
     where
       or-no : (b : Bool) → (b || false) ≡ b
@@ -148,7 +162,8 @@ module _ (me : Noted) (f : Function) (o : Ok me f) (from : ℕ) (i : InvalidateR
       whose true = refl
       whose false = refl
 
-      theirs : eqb (k .number) (bitIndex (i .itag)) ≡ false → (eqb (k .agent) from && isListed (f .waiting) (k .number)) ≡ (isAgent (f .agent) (k .agent) && isListed (f .waiting) (k .number))
+      theirs : eqb (k .number) (bitIndex (i .itag)) ≡ false
+          → (eqb (k .agent) from && isListed (f .waiting) (k .number)) ≡ (isAgent (f .agent) (k .agent) && isListed (f .waiting) (k .number))
       theirs e = byCases (isListed (f .waiting) (k .number))
           (λ w. ap (λ (b : Bool). b && isListed (f .waiting) (k .number)) (agreed k (and-both (ltb (k .number) 32) _ w .1)))
           (λ w. rw w (and-false (eqb (k .agent) from) ∙ sym (and-false (isAgent (f .agent) (k .agent)))))
@@ -171,7 +186,8 @@ module _ (me : Noted) (f : Function) (o : Ok me f) (from : ℕ) (i : InvalidateR
       rw (agent, e, unnoted n, n, place-is (bitIndex (i .itag)) (place-lt (i .itag)), eq-eqb (bitIndex (i .itag)) (bitIndex (i .itag)) refl) refl)
       (λ e. rw (agent, e, other k e low) (or-no _))
     where
-      unnoted : k .number ≡ bitIndex (i .itag) → isIn (delayedBy (tagState (f .tags) (tag t))) (itag (k .number)) ≡ false
+      unnoted : k .number ≡ bitIndex (i .itag)
+          → isIn (delayedBy (tagState (f .tags) (tag t))) (itag (k .number)) ≡ false
       unnoted n = is-false _ (λ h. never-both _ (o .noted (tag t) (itag (k .number)) h) (rw (n, in-bitIndex (f .waiting) (i .itag)) idle))
 
       or-no : (b : Bool) → (b || false) ≡ b

@@ -62,7 +62,8 @@ module _ (range : Range) (i : ITag) where
       mark (Translate q) = stale-translation q
       mark (Read r) = refl
 
-  pub invalidate-live : (o : TagState) → liveOf (invalidatedIf range i o) ≡ true → (liveOf o ≡ true) × (pendingOverlaps range o ≡ false)
+  pub invalidate-live : (o : TagState) → liveOf (invalidatedIf range i o) ≡ true
+      → (liveOf o ≡ true) × (pendingOverlaps range o ≡ false)
   invalidate-live o e = byCases (pendingOverlaps range o) (λ u. no-tf (sym (rw u at e) ∙ dead o)) (λ u. (rw u at e, u))
     where
       dead : (o : TagState) → liveOf (invalidatedState i o) ≡ false
@@ -71,7 +72,8 @@ module _ (range : Range) (i : ITag) where
       dead (Read r) = refl
 
   -- a read that overlaps delays it; where it was not, and another ITag, nothing changes
-  pub invalidate-delayed : (o : TagState) (k : ITag) → isIn (delayedBy (invalidatedIf range i o)) k ≡ (isIn (delayedBy o) k || (eqb (bitIndex i) (bitIndex k) && isOpen (readIn {T = terms} range (pendingOf o))))
+  pub invalidate-delayed : (o : TagState) (k : ITag)
+      → isIn (delayedBy (invalidatedIf range i o)) k ≡ (isIn (delayedBy o) k || (eqb (bitIndex i) (bitIndex k) && isOpen (readIn {T = terms} range (pendingOf o))))
   invalidate-delayed Free k = byCases (pendingOverlaps range Free) (λ u. rw (u, in-none k) (sym (and-false (eqb (bitIndex i) (bitIndex k))))) (λ u. rw (u, in-none k) (sym (and-false (eqb (bitIndex i) (bitIndex k)))))
   invalidate-delayed (Translate q) k = byCases (pendingOverlaps range (Translate q)) (λ u. rw (u, in-none k) (sym (and-false (eqb (bitIndex i) (bitIndex k))))) (λ u. rw (u, in-none k) (sym (and-false (eqb (bitIndex i) (bitIndex k)))))
   invalidate-delayed (Read r) k = rw (← overlaps-read range r) (byCases (pendingOverlaps range (Read r)) (λ u. rw u (in-withItag (r .itags) i k ∙ yes (eqb (bitIndex i) (bitIndex k)) (isIn (r .itags) k))) (λ u. rw u (not-met (eqb (bitIndex i) (bitIndex k)) (isIn (r .itags) k))))
@@ -87,7 +89,8 @@ module _ (range : Range) (i : ITag) where
       not-met false false = refl
 
   -- what a Translation Request that stays live can give lies outside the range
-  pub invalidate-apart : (o : TagState) → liveOf (invalidatedIf range i o) ≡ true → Apart range (pendingOf (invalidatedIf range i o))
+  pub invalidate-apart : (o : TagState) → liveOf (invalidatedIf range i o) ≡ true
+      → Apart range (pendingOf (invalidatedIf range i o))
   invalidate-apart o e = rw (invalidate-pending o) (go o (invalidate-live o e .1))
     where
       go : (o : TagState) → pendingOverlaps range o ≡ false → Apart range (pendingOf o)
@@ -95,7 +98,8 @@ module _ (range : Range) (i : ITag) where
       go (Read r) u = tt
       go (Translate q) u = λ k d x g. is-false _ (λ m. outside k d x g m)
         where
-          outside : (k : ℕ) (d : Reply) (x : Cached) → isReplied (askedBy q) k d x ≡ true → terms .overlaps range x ≡ true → ⊥
+          outside : (k : ℕ) (d : Reply) (x : Cached) → isReplied (askedBy q) k d x ≡ true
+              → terms .overlaps range x ≡ true → ⊥
           outside k d x g m =
               let a = and-both (eqb (x .stu) (q .stu)) _ g in
               let s : x .stu ≡ q .stu = eqb-true (x .stu) (q .stu) (a .0) in

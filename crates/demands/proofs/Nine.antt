@@ -36,14 +36,17 @@ module _ (me : Noted) (f : Function) (o : Ok me f) (out : List ℕ) (from : ℕ)
   unfolding invalidated
   nine = rw listed (go (f .agent) refl)
     where
-      go : (g : Agent) → f .agent ≡ g → (commit f out (cond (isOtherAgent g from) (refusal 10) (cond (isIn (f .waiting) (i .itag)) (refusal 9) (sendsNothing (invalidatedBy f from i) done))) .answer ≡ refusal 9) ↔ ((isAgent g from && isIn (f .waiting) (i .itag)) ≡ true)
+      go : (g : Agent) → f .agent ≡ g
+          → (commit f out (cond (isOtherAgent g from) (refusal 10) (cond (isIn (f .waiting) (i .itag)) (refusal 9) (sendsNothing (invalidatedBy f from i) done))) .answer ≡ refusal 9) ↔ ((isAgent g from && isIn (f .waiting) (i .itag)) ≡ true)
       go Unknown e = byCases (isIn (f .waiting) (i .itag)) (λ w. absurd (o .known (i .itag) w e)) (λ w. rw w (λ h. impossible cc, λ h. no-tf (sym h)))
       go (Known id) e = byCases (eqb id from) (λ u. ours (eqb-true id from u)) (λ u. rw (u, other u) (λ h. let z : _≡_ {A = ℕ} 10 9 = cc in absurd (omega arith), λ h. no-tf (sym h)))
         where
           other : eqb id from ≡ false → eqb from id ≡ false
-          other u = byCases (eqb from id) (λ v. absurd (never-both _ (eq-eqb id from (sym (eqb-true from id v))) u)) (λ v. v)
+          other u =
+              byCases (eqb from id) (λ v. absurd (never-both _ (eq-eqb id from (sym (eqb-true from id v))) u)) (λ v. v)
 
-          ours : id ≡ from → (commit f out (cond (not (eqb id from)) (refusal 10) (cond (isIn (f .waiting) (i .itag)) (refusal 9) (sendsNothing (invalidatedBy f from i) done))) .answer ≡ refusal 9) ↔ ((eqb from id && isIn (f .waiting) (i .itag)) ≡ true)
+          ours : id ≡ from
+              → (commit f out (cond (not (eqb id from)) (refusal 10) (cond (isIn (f .waiting) (i .itag)) (refusal 9) (sendsNothing (invalidatedBy f from i) done))) .answer ≡ refusal 9) ↔ ((eqb from id && isIn (f .waiting) (i .itag)) ≡ true)
           ours s = rw (s, eq-eqb from from refl) (byCases (isIn (f .waiting) (i .itag)) (λ w. rw w (λ h. refl, λ h. refl)) (λ w. rw w (λ h. impossible cc, λ h. no-tf (sym h))))
 
 nine-run : (begin : Bench card) → lawful .Ok begin × Blank (lawful .view begin) → NineWhileWaiting begin

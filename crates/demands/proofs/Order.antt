@@ -46,7 +46,9 @@ module _ (me : Noted) (f : Function) (o : Ok me f) where
   module _ (bytes out : List ℕ) (are : areBytes bytes ≡ true) where
     -- a call that is not an accepted reset keeps what holds, and does what is seen of it
     abbrev Keeps : Command → Result Success → Type 0
-    Keeps x s = (ty : isTyped x ≡ true) → (not (isRefused (commit f out s .answer)) && isReset x) ≡ false → Does (Good me f (record { command = x; bytes = bytes; out = out; typed = ty; octets = are })) s
+    Keeps x s =
+        (ty : isTyped x ≡ true) → (not (isRefused (commit f out s .answer)) && isReset x) ≡ false
+        → Does (Good me f (record { command = x; bytes = bytes; out = out; typed = ty; octets = are })) s
 
     each : Cases f bytes out Keeps
     each =
@@ -81,7 +83,8 @@ module _ (me : Noted) (f : Function) (o : Ok me f) where
           stopsPages = λ s a ty u. good-response me f o bytes out ty are s a _;
         }
 
-  good : (x : Command) (bytes out : List ℕ) (ty : isTyped x ≡ true) (are : areBytes bytes ≡ true) → (not (isRefused (step f x bytes out .answer)) && isReset x) ≡ false
+  good : (x : Command) (bytes out : List ℕ) (ty : isTyped x ≡ true) (are : areBytes bytes ≡ true)
+      → (not (isRefused (step f x bytes out .answer)) && isReset x) ≡ false
       → Does (Good me f (record { command = x; bytes = bytes; out = out; typed = ty; octets = are })) (calling f x bytes out)
   good x bytes out ty are u = cases f bytes out _ (each bytes out are) x ty u
 
@@ -94,11 +97,15 @@ module _ (me : Noted) (f : Function) (o : Ok me f) where
           sent = packetSent (me .stu) (c .command) (reading (take (r .sent) (r .buffer)));
         })
     pub legible : isPacket me (take (r .sent) (r .buffer)) ≡ true
-    pub apart : (i : Ticket) (a : Range) → accepts i (cond (isRefused (r .answer)) none (callTaken me (c .command) (c .bytes))) ≡ some a → take (r .sent) (r .buffer) ≡ []
+    pub apart : (i : Ticket) (a : Range)
+        → accepts i (cond (isRefused (r .answer)) none (callTaken me (c .command) (c .bytes))) ≡ some a
+        → take (r .sent) (r .buffer) ≡ []
 
   done : (c : Call) (s : Result Success) → Does (Good me f c) s → Done c (commit f (c .out) s)
-  done c (ok d) h = let g = h .success d refl in record { ok = g .ok; step = g .step; legible = g .legible; apart = g .apart }
-  done c (refusal n) h = record { ok = o; step = rw nothing-reads (quiet (view f)); legible = refl; apart = λ i a e. refl }
+  done c (ok d) h =
+      let g = h .success d refl in record { ok = g .ok; step = g .step; legible = g .legible; apart = g .apart }
+  done c (refusal n) h =
+      record { ok = o; step = rw nothing-reads (quiet (view f)); legible = refl; apart = λ i a e. refl }
 
 -- ---- a Function that is reset, or new
 
@@ -137,7 +144,8 @@ same-notes false (PagesOn n) me e = refl
 same-notes false PagesOff me e = refl
 same-notes false (PageRequest q) me e = refl
 
-after-call : (s : Bench card) (c : Call) → resets card s c ≡ false → (o : Ok (s .notes) (s .fn)) → Done (s .notes) (s .fn) o c (step (s .fn) (c .command) (c .bytes) (c .out))
+after-call : (s : Bench card) (c : Call) → resets card s c ≡ false → (o : Ok (s .notes) (s .fn))
+    → Done (s .notes) (s .fn) o c (step (s .fn) (c .command) (c .bytes) (c .out))
 after-call s c u o = done (s .notes) (s .fn) o c (calling (s .fn) (c .command) (c .bytes) (c .out)) (good (s .notes) (s .fn) o (c .command) (c .bytes) (c .out) (c .typed) (c .octets) u)
 
 -- an accepted reset leaves a fresh Function, and sends nothing
@@ -146,7 +154,8 @@ pub record Afresh (me : Noted) (r : Observed) : Type 0 where
   pub blank : Blank (view (r .state))
   pub silent : take (r .sent) (r .buffer) ≡ []
 
-after-reset : (f : Function) (me : Noted) (x : Command) (bytes out : List ℕ) → isTyped x ≡ true → not (isRefused (step f x bytes out .answer)) ≡ true → isReset x ≡ true
+after-reset : (f : Function) (me : Noted) (x : Command) (bytes out : List ℕ) → isTyped x ≡ true
+    → not (isRefused (step f x bytes out .answer)) ≡ true → isReset x ≡ true
     → Afresh (cond (isRefused (step f x bytes out .answer)) me (notedAfter me x)) (step f x bytes out)
 unfolding calling resetting
 after-reset f me (Reset a) bytes out ty e r = byCases (leb (a .stu) 31)
@@ -195,6 +204,7 @@ module _ (begin : Bench card) (b : lawful .Ok begin × Blank (lawful .view begin
   unfolding lawful
   ran-ok = ok-run card lawful begin calls (b .0) u
 
-  pub ran-waits : (i : Ticket) → waits 32 i (history card begin calls) ≡ view (stateAfter card begin calls .fn) .waiting i
+  pub ran-waits : (i : Ticket)
+      → waits 32 i (history card begin calls) ≡ view (stateAfter card begin calls .fn) .waiting i
   unfolding lawful
   ran-waits i = told-run card lawful begin b calls u .waiting i

@@ -67,7 +67,9 @@ module _ (me : Noted) (f : Function) (o : Ok me f) (bytes out : List ℕ) (ty : 
   abbrev load : List ℕ
   load = payloadIn bytes
 
-  plain : (b : Body) (to : ℕ) (a : Arrives f bytes b to) (g : Function) (w : Unrefused) → Ok me g → Step 32 (view f) (view g) (record { took = bodyTaken me load (a .packet .head .sender) b; sent = none }) → Does (Good me f receive-call) (sendsNothing g w)
+  plain : (b : Body) (to : ℕ) (a : Arrives f bytes b to) (g : Function) (w : Unrefused) → Ok me g
+      → Step 32 (view f) (view g) (record { took = bodyTaken me load (a .packet .head .sender) b; sent = none })
+      → Does (Good me f receive-call) (sendsNothing g w)
   plain b to a g w k s = good-plain me f receive-call g w k (rw (a .reads, a .is) s)
 
   -- ---- completions
@@ -86,8 +88,11 @@ module _ (me : Noted) (f : Function) (o : Ok me f) (bytes out : List ℕ) (ty : 
       own = tagState-tag (f .tags) t used
 
       -- the cache stays
-      same-cache : (d : Option Reply) → outcomeTaken (t .0) (c .count) load (c .outcome) ≡ some (CPL (t .0) d) → (enabled : Bool) (after : TagState) (w : Unrefused) → pendingOf after ≡ leaves d (pendingOf b) → (liveOf after ≡ true → liveOf b ≡ true)
-          → ((q : PendingTranslation) → after ≡ Translate q → (q .stu ≡ f .stu) × (q .due ≡ 0 → q .whole ≡ 0)) → ((i : ITag) → isIn (delayedBy after) i ≡ (isOpen (leaves {T = terms} d (pendingOf b)) && isIn (delayedBy b) i))
+      same-cache : (d : Option Reply) → outcomeTaken (t .0) (c .count) load (c .outcome) ≡ some (CPL (t .0) d)
+          → (enabled : Bool) (after : TagState) (w : Unrefused) → pendingOf after ≡ leaves d (pendingOf b)
+          → (liveOf after ≡ true → liveOf b ≡ true)
+          → ((q : PendingTranslation) → after ≡ Translate q → (q .stu ≡ f .stu) × (q .due ≡ 0 → q .whole ≡ 0))
+          → ((i : ITag) → isIn (delayedBy after) i ≡ (isOpen (leaves {T = terms} d (pendingOf b)) && isIn (delayedBy b) i))
           → Does (Good me f receive-call) (sendsNothing (left f t enabled (f .cache) after) w)
       same-cache d given enabled after w opened lived begins notes =
           plain (Cpl c) (c .requester) a _ w
@@ -95,7 +100,9 @@ module _ (me : Noted) (f : Function) (o : Ok me f) (bytes out : List ℕ) (ty : 
           (rw (mine, given) (left-step me f o t own b holds enabled (f .cache) after d opened lived notes (λ j x h. inl h)))
 
       -- the tag is freed
-      frees : (d : Option Reply) → outcomeTaken (t .0) (c .count) load (c .outcome) ≡ some (CPL (t .0) d) → (enabled : Bool) (w : Unrefused) → leaves {T = terms} d (pendingOf b) ≡ none → Does (Good me f receive-call) (sendsNothing (left f t enabled (f .cache) Free) w)
+      frees : (d : Option Reply) → outcomeTaken (t .0) (c .count) load (c .outcome) ≡ some (CPL (t .0) d)
+          → (enabled : Bool) (w : Unrefused) → leaves {T = terms} d (pendingOf b) ≡ none
+          → Does (Good me f receive-call) (sendsNothing (left f t enabled (f .cache) Free) w)
       frees d given enabled w closed =
           same-cache d given enabled Free w (sym closed) (λ l. no-tf (sym l)) (λ q h. impossible cc)
           (λ i. in-none i ∙ sym (ap (λ (x : Option _). isOpen x && isIn (delayedBy b) i) closed))
@@ -105,15 +112,19 @@ module _ (me : Noted) (f : Function) (o : Ok me f) (bytes out : List ℕ) (ty : 
       is-used : tagState (f .tags) t ≡ Free → ⊥
       is-used h = let z : Read r ≡ Free = sym holds ∙ h in impossible cc
 
-      pub good-fails : (status : ℕ) → c .outcome ≡ Status status → eqb status 0 ≡ false → Does (Good me f receive-call) (sendsNothing (withTag f t Free) readFailed)
+      pub good-fails : (status : ℕ) → c .outcome ≡ Status status → eqb status 0 ≡ false
+          → Does (Good me f receive-call) (sendsNothing (withTag f t Free) readFailed)
       good-fails status x z = frees (Read r) holds is-used none (rw (x, z) refl) (f .enabled) _ refl
 
-      pub good-ends : (dwords : ℕ) → c .outcome ≡ Data dwords → eqb (c .count) (r .due) ≡ true → eqb (length load) (r .due) ≡ true → Does (Good me f receive-call) (sendsNothing (withTag f t Free) payloadLast)
+      pub good-ends : (dwords : ℕ) → c .outcome ≡ Data dwords → eqb (c .count) (r .due) ≡ true
+          → eqb (length load) (r .due) ≡ true
+          → Does (Good me f receive-call) (sendsNothing (withTag f t Free) payloadLast)
       good-ends dwords x n z =
           let all = eqb-true (length load) (r .due) z in
           frees (Read r) holds is-used (some (record { count = c .count; load = load })) (rw x refl) (f .enabled) _ (rw (n, le-leb (r .due) (length load) (omega (arith, all))))
 
-      pub good-goes-on : (dwords : ℕ) → c .outcome ≡ Data dwords → eqb (c .count) (r .due) ≡ true → leb (length load) (r .due) ≡ true → eqb (length load) (r .due) ≡ false
+      pub good-goes-on : (dwords : ℕ) → c .outcome ≡ Data dwords → eqb (c .count) (r .due) ≡ true
+          → leb (length load) (r .due) ≡ true → eqb (length load) (r .due) ≡ false
           → Does (Good me f receive-call) (sendsNothing (withTag f t (Read (withDue r (r .due - length load)))) payloadMore)
       good-goes-on dwords x n l z =
           let less : leb (r .due) (length load) ≡ false = lt-leb (r .due) (length load) (below (leb-true (length load) (r .due) l) (eqb-false (length load) (r .due) z)) in
@@ -138,15 +149,20 @@ module _ (me : Noted) (f : Function) (o : Ok me f) (bytes out : List ℕ) (ty : 
       filled-reached j = ⊎-elim (λ s. rw s (o .reached j)) (⊎-elim (λ s. rw s (lit≤ tt)) (λ b. brought-to q load _ all-bytes b)) (applied-entry q load (f .cache) (o .cache) j)
 
       -- with the translations of a live request applied
-      fills-cache : outcomeTaken (t .0) (c .count) load (c .outcome) ≡ some (CPL (t .0) (some reply)) → isLive f q ≡ true → translationsFit q load ≡ true → (after : TagState) (w : Unrefused) → pendingOf after ≡ leaves (some reply) (pendingOf (Translate q))
-          → (liveOf after ≡ true → liveOf (Translate q) ≡ true) → ((q : PendingTranslation) → after ≡ Translate q → (q .stu ≡ f .stu) × (q .due ≡ 0 → q .whole ≡ 0)) → ((i : ITag) → isIn (delayedBy after) i ≡ false)
+      fills-cache : outcomeTaken (t .0) (c .count) load (c .outcome) ≡ some (CPL (t .0) (some reply))
+          → isLive f q ≡ true → translationsFit q load ≡ true → (after : TagState) (w : Unrefused)
+          → pendingOf after ≡ leaves (some reply) (pendingOf (Translate q))
+          → (liveOf after ≡ true → liveOf (Translate q) ≡ true)
+          → ((q : PendingTranslation) → after ≡ Translate q → (q .stu ≡ f .stu) × (q .due ≡ 0 → q .whole ≡ 0))
+          → ((i : ITag) → isIn (delayedBy after) i ≡ false)
           → Does (Good me f receive-call) (sendsNothing (left f t (f .enabled) filled-cache after) w)
       fills-cache given live fit after w opened lived begins notes =
           plain (Cpl c) (c .requester) a _ w
           (left-ok me f o t (own (Translate q) holds asks-used) after (f .enabled) filled-cache (applied-sound q load (f .cache) (o .cache)) filled-reached begins (λ i h. absurd (never-both _ h (notes i))))
           (rw (mine, given) (left-step me f o t (own (Translate q) holds asks-used) (Translate q) holds (f .enabled) filled-cache after (some reply) opened lived (λ i. notes i ∙ sym (ap (λ (b : Bool). isOpen (leaves {T = terms} (some reply) (pendingOf (Translate q))) && b) (in-none i) ∙ and-false (isOpen (leaves {T = terms} (some reply) (pendingOf (Translate q)))))) entries))
         where
-          entries : (j : ℕ) (y : Cached) → cond {A = Option Cached} (entryAt filled-cache j .used) (some (record { stu = f .stu; entry = entryAt filled-cache j })) none ≡ some y
+          entries : (j : ℕ) (y : Cached)
+              → cond {A = Option Cached} (entryAt filled-cache j .used) (some (record { stu = f .stu; entry = entryAt filled-cache j })) none ≡ some y
               → (heldIn f j ≡ some y) ⊎ (fills (view f) (some (CPL (t .0) (some reply))) y ≡ true)
           entries j y h =
               ⊎-elim
@@ -157,10 +173,12 @@ module _ (me : Noted) (f : Function) (o : Ok me f) (bytes out : List ℕ) (ty : 
               (applied-entry q load (f .cache) (o .cache) j)
 
       -- no data
-      pub good-aborts : (status : ℕ) → c .outcome ≡ Status status → eqb status 0 ≡ false → Does (Good me f receive-call) (sendsNothing (withTag f t Free) aborted)
+      pub good-aborts : (status : ℕ) → c .outcome ≡ Status status → eqb status 0 ≡ false
+          → Does (Good me f receive-call) (sendsNothing (withTag f t Free) aborted)
       good-aborts status x z = frees (Translate q) holds asks-used none (rw (x, z) refl) (f .enabled) _ refl
 
-      pub good-switches : (status : ℕ) → c .outcome ≡ Status status → eqb status 0 ≡ false → Does (Good me f receive-call) (sendsNothing (withEnable (withTag f t Free) false) switchedOff)
+      pub good-switches : (status : ℕ) → c .outcome ≡ Status status → eqb status 0 ≡ false
+          → Does (Good me f receive-call) (sendsNothing (withEnable (withTag f t Free) false) switchedOff)
       good-switches status x z = frees (Translate q) holds asks-used none (rw (x, z) refl) false _ refl
 
       -- a first packet of two leaves the rest due; the last, and the only one, leave nothing
@@ -168,14 +186,16 @@ module _ (me : Noted) (f : Function) (o : Ok me f) (bytes out : List ℕ) (ty : 
         given : outcomeTaken (t .0) (c .count) load (c .outcome) ≡ some (CPL (t .0) (some reply))
         given = rw x refl
 
-        pub good-off : partOf f bytes c q ≡ OffBoundary → Does (Good me f receive-call) (sendsNothing (withTag f t Free) discarded)
+        pub good-off : partOf f bytes c q ≡ OffBoundary
+            → Does (Good me f receive-call) (sendsNothing (withTag f t Free) discarded)
         good-off j = frees (Translate q) holds asks-used (some reply) given (f .enabled) _ (rw (eq-eqb (c .count) (length load) (off-whole q (f .rcb) (c .count) (c .lower) load j)))
 
         module _ (j : partOf f bytes c q ≡ Last) where
           whole : eqb (c .count) (length load) ≡ true
           whole = eq-eqb (c .count) (length load) (last-whole q (f .rcb) (c .count) (c .lower) load j)
 
-          pub good-last : isLive f q ≡ true → Does (Good me f receive-call) (sendsNothing (withTag (withCache f filled-cache) t Free) filled)
+          pub good-last : isLive f q ≡ true
+              → Does (Good me f receive-call) (sendsNothing (withTag (withCache f filled-cache) t Free) filled)
           good-last live = fills-cache given live (last-fits q (f .rcb) (c .count) (c .lower) load j) Free _ (rw whole) (λ l. no-tf (sym l)) (λ p h. impossible cc) in-none
 
           pub good-last-dead : Does (Good me f receive-call) (sendsNothing (withTag f t Free) discarded)
@@ -197,21 +217,24 @@ module _ (me : Noted) (f : Function) (o : Ok me f) (bytes out : List ℕ) (ty : 
           same-range : translationRange rest ≡ translationRange q
           same-range = translationRange-units rest ∙ sym (translationRange-units q)
 
-          begins : (p : PendingTranslation) → Translate rest ≡ Translate p → (p .stu ≡ f .stu) × (p .due ≡ 0 → p .whole ≡ 0)
+          begins : (p : PendingTranslation) → Translate rest ≡ Translate p
+              → (p .stu ≡ f .stu) × (p .due ≡ 0 → p .whole ≡ 0)
           begins p h =
               let b = first-begins q (f .rcb) (c .count) (c .lower) load j in (
                 let unit : q .stu ≡ p .stu = cc in sym unit ∙ o .begun t q holds .0,
                 λ d. let same : c .count - length load ≡ p .due = cc in absurd (b .1 .1 (omega (arith, b .1 .0, same, d))),
               )
 
-          pub good-first : isLive f q ≡ true → Does (Good me f receive-call) (sendsNothing (withTag (withCache f filled-cache) t (Translate rest)) more)
+          pub good-first : isLive f q ≡ true
+              → Does (Good me f receive-call) (sendsNothing (withTag (withCache f filled-cache) t (Translate rest)) more)
           good-first live = fills-cache given live (first-fits q (f .rcb) (c .count) (c .lower) load j) (Translate rest) _ (rw (half, so-far, same-range)) (λ l. l) begins in-none
 
           pub good-first-dead : Does (Good me f receive-call) (sendsNothing (withTag f t (Translate rest)) discarded)
           good-first-dead = same-cache (Translate q) holds asks-used (some reply) given (f .enabled) (Translate rest) _ (rw (half, so-far, same-range)) (λ l. l) begins (λ i. rw (half, in-none i))
 
   -- ---- Invalidate Requests
-  pub good-invalidate : (i : InvalidateRequest) (a : Arrives f bytes (Inv i) (i .device)) → isOtherAgent (f .agent) (a .packet .head .sender) ≡ false → isIn (f .waiting) (i .itag) ≡ false
+  pub good-invalidate : (i : InvalidateRequest) (a : Arrives f bytes (Inv i) (i .device))
+      → isOtherAgent (f .agent) (a .packet .head .sender) ≡ false → isIn (f .waiting) (i .itag) ≡ false
       → Does (Good me f receive-call) (sendsNothing (invalidatedBy f (a .packet .head .sender) i) done)
   unfolding invalidatedRange
   good-invalidate i a ours idle =
@@ -220,5 +243,6 @@ module _ (me : Noted) (f : Function) (o : Ok me f) (bytes out : List ℕ) (ty : 
       plain (Inv i) (i .device) a _ _ (gone-ok me f o from i short ours idle) (rw (← o .unit) (gone-step me f o from i short ours idle))
 
   -- ---- PRG Responses
-  pub good-response : (s : PrgResponse) (a : Arrives f bytes (Prs s) (s .device)) (pages : Pages) → Does (Good me f receive-call) (sendsNothing (withPages f pages) done)
+  pub good-response : (s : PrgResponse) (a : Arrives f bytes (Prs s) (s .device)) (pages : Pages)
+      → Does (Good me f receive-call) (sendsNothing (withPages f pages) done)
   good-response s a pages = plain (Prs s) (s .device) a _ _ (same-ok me f o (f .enabled) pages) (quiet (view f))

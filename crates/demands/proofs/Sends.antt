@@ -86,7 +86,8 @@ module _ (me : Noted) (f : Function) (o : Ok me f) (bytes out : List ℕ) (octet
   simple c ty = record { command = c; bytes = bytes; out = out; typed = ty; octets = octets }
 
   -- ---- E set
-  pub good-enable : (ty : isTyped Enable ≡ true) → Does (Good me f (simple Enable ty)) (sendsNothing (withEnable (withCache (withTags f (allStale (f .tags))) (emptied (f .cache))) true) done)
+  pub good-enable : (ty : isTyped Enable ≡ true)
+      → Does (Good me f (simple Enable ty)) (sendsNothing (withEnable (withCache (withTags f (allStale (f .tags))) (emptied (f .cache))) true) done)
   good-enable ty =
       good-plain me f (simple Enable ty) _ _
       (record {
@@ -118,7 +119,8 @@ module _ (me : Noted) (f : Function) (o : Ok me f) (bytes out : List ℕ) (octet
         stale = λ i a p. no-some p;
       })
     where
-      old : (t : Tag) (q : PendingTranslation) (x : TagState) → tagState (f .tags) t ≡ x → staleState x ≡ Translate q → (q .stu ≡ f .stu) × (q .due ≡ 0 → q .whole ≡ 0)
+      old : (t : Tag) (q : PendingTranslation) (x : TagState) → tagState (f .tags) t ≡ x → staleState x ≡ Translate q
+          → (q .stu ≡ f .stu) × (q .due ≡ 0 → q .whole ≡ 0)
       old t q Free h e = impossible cc
       old t q (Translate p) h e =
           let w : p .whole ≡ q .whole = cc in
@@ -130,12 +132,16 @@ module _ (me : Noted) (f : Function) (o : Ok me f) (bytes out : List ℕ) (octet
 -- ---- a tag opened
 
 module _ (me : Noted) (f : Function) (o : Ok me f) (t : Tag) (own : isTag t ≡ true) (b : TagState) where
-  opened-ok : ((q : PendingTranslation) → b ≡ Translate q → (q .stu ≡ f .stu) × (q .due ≡ 0 → q .whole ≡ 0)) → ((i : ITag) → isIn (delayedBy b) i ≡ false) → Ok me (withTag f t b)
+  opened-ok : ((q : PendingTranslation) → b ≡ Translate q → (q .stu ≡ f .stu) × (q .due ≡ 0 → q .whole ≡ 0))
+      → ((i : ITag) → isIn (delayedBy b) i ≡ false) → Ok me (withTag f t b)
   opened-ok begins notes = left-ok me f o t own b (f .enabled) (f .cache) (o .cache) (o .reached) begins (λ i e. absurd (never-both _ e (notes i)))
 
   -- a request goes out on a tag that was free
-  pub open-step : tagState (f .tags) t ≡ Free → (x : Sent terms) → ((u : ℕ) → uses u (some x) ≡ eqb u (t .0)) → ((u : ℕ) (p : Option (Pending terms)) → onSent u (some x) p ≡ cond (eqb u (t .0)) (pendingOf b) p)
-      → ((i : Ticket) → completes i (some x) ≡ false) → ((i : ITag) → isIn (delayedBy b) i ≡ false) → ((w : Wanted) (k : ℕ) → reaches (some x) ≡ some (w, k) → Through (view f) w k) → Step 32 (view f) (view (withTag f t b)) (record { took = none; sent = some x })
+  pub open-step : tagState (f .tags) t ≡ Free → (x : Sent terms) → ((u : ℕ) → uses u (some x) ≡ eqb u (t .0))
+      → ((u : ℕ) (p : Option (Pending terms)) → onSent u (some x) p ≡ cond (eqb u (t .0)) (pendingOf b) p)
+      → ((i : Ticket) → completes i (some x) ≡ false) → ((i : ITag) → isIn (delayedBy b) i ≡ false)
+      → ((w : Wanted) (k : ℕ) → reaches (some x) ≡ some (w, k) → Through (view f) w k)
+      → Step 32 (view f) (view (withTag f t b)) (record { took = none; sent = some x })
   open-step free x used opened carries unnoted served =
       record {
         opens = λ u. byCases (eqb u (t .0)) (λ e. ap pendingOf (at-own me f o t own b (tag u) e) ∙ sym (opened u (pendingOf (tagState (f .tags) (tag u))) ∙ rw e refl))
@@ -163,12 +169,14 @@ module _ (me : Noted) (f : Function) (o : Ok me f) (a : AskArgs) (bytes out : Li
   ask-call = record { command = Asks a; bytes = bytes; out = out; typed = ty; octets = octets }
 
   abbrev new-request : PendingTranslation
-  new-request = record { address = a .address; further = a .units - 1; stu = f .stu; stale = false; size = 0; whole = 0; due = 0 }
+  new-request =
+      record { address = a .address; further = a .units - 1; stu = f .stu; stale = false; size = 0; whole = 0; due = 0 }
 
   asks-units : (units : ℕ) → 1 ≤ units → dwordCount (2 * units) / 2 - 1 ≡ units - 1
   asks-units units h = rw (ne-eqb (2 * units) 0 (omega arith)) (omega arith)
 
-  pub good-ask : (t : Tag) → isAskable (f .rcb) (f .stu) a ≡ true → freeTag (f .tags) ≡ Lowest t → Does (Good me f ask-call) (askWithTag f t a out)
+  pub good-ask : (t : Tag) → isAskable (f .rcb) (f .stu) a ≡ true → freeTag (f .tags) ≡ Lowest t
+      → Does (Good me f ask-call) (askWithTag f t a out)
   good-ask t few e =
       let b = newTranslation (a .address) (a .units - 1) (f .stu) in
       let n = few-units (f .rcb) (f .stu) a few in
@@ -187,7 +195,8 @@ module _ (me : Noted) (f : Function) (o : Ok me f) (a : AskArgs) (bytes out : Li
 pub record Goes (f : Function) (address dwords : ℕ) (at : Target) : Type 0 where
   pub least : 1 ≤ dwords
   pub inside : at .address < 2 ^ 64
-  pub by : at .translated ≡ true → (bytes : ℕ) → Through (view f) (record { address = some address; bytes = bytes }) (at .address)
+  pub by : at .translated ≡ true → (bytes : ℕ)
+      → Through (view f) (record { address = some address; bytes = bytes }) (at .address)
 
 module _ (me : Noted) (f : Function) (o : Ok me f) (a : AccessArgs) (bytes out : List ℕ) (ty : isTyped (Accesses a) ≡ true) (octets : areBytes bytes ≡ true) where
   abbrev access-call : Call
@@ -205,7 +214,8 @@ module _ (me : Noted) (f : Function) (o : Ok me f) (a : AccessArgs) (bytes out :
         by = entered (found (f .cache) (unitAt (f .stu) (a .address))) refl (load .1) .1;
       }
     where
-      entered : (x : Found) → found (f .cache) (unitAt (f .stu) (a .address)) ≡ x → throughFound (a .direction) (f .stu) (a .address) x ≡ ok at
+      entered : (x : Found) → found (f .cache) (unitAt (f .stu) (a .address)) ≡ x
+          → throughFound (a .direction) (f .stu) (a .address) x ≡ ok at
           → (at .address < 2 ^ 64) × (at .translated ≡ true → (bytes : ℕ) → Through (view f) (record { address = some (a .address); bytes = bytes }) (at .address))
       entered Miss h q = impossible cc
       entered (Hit x) h q =
@@ -227,28 +237,36 @@ module _ (me : Noted) (f : Function) (o : Ok me f) (a : AccessArgs) (bytes out :
           )))
 
   -- what is sent goes by the entry where it is translated
-  served : (direction : Direction) → a .direction ≡ direction → (at : Target) → Goes f (a .address) (a .dwords) at → (bytes : ℕ) (w : Wanted) (k : ℕ)
-      → cond {A = Option (Wanted × ℕ)} (at .translated) (some (record { address = addressFor direction (Accesses a); bytes = bytes }, at .address)) none ≡ some (w, k) → Through (view f) w k
-  served direction is at g bytes w k e = byCases (at .translated) (λ t. go t (rw (t, same-way direction is) at e)) (λ t. no-some (rw t at e))
+  served : (direction : Direction) → a .direction ≡ direction → (at : Target) → Goes f (a .address) (a .dwords) at
+      → (bytes : ℕ) (w : Wanted) (k : ℕ)
+      → cond {A = Option (Wanted × ℕ)} (at .translated) (some (record { address = addressFor direction (Accesses a); bytes = bytes }, at .address)) none ≡ some (w, k)
+      → Through (view f) w k
+  served direction is at g bytes w k e =
+      byCases (at .translated) (λ t. go t (rw (t, same-way direction is) at e)) (λ t. no-some (rw t at e))
     where
-      same-way : (direction : Direction) → a .direction ≡ direction → addressFor direction (Accesses a) ≡ some (a .address)
+      same-way : (direction : Direction) → a .direction ≡ direction
+          → addressFor direction (Accesses a) ≡ some (a .address)
       same-way ToRead h = rw h
       same-way ToWrite h = rw h
 
-      go : at .translated ≡ true → _≡_ {A = Option (Wanted × ℕ)} (some (record { address = some (a .address); bytes = bytes }, at .address)) (some (w, k)) → Through (view f) w k
+      go : at .translated ≡ true
+          → _≡_ {A = Option (Wanted × ℕ)} (some (record { address = some (a .address); bytes = bytes }, at .address)) (some (w, k))
+          → Through (view f) w k
       go t q =
           let both : _≡_ {A = Wanted × ℕ} (record { address = some (a .address); bytes = bytes }, at .address) (w, k) = cc in
           let one : record { address = some (a .address); bytes = bytes } ≡ w = ap (λ (z : Wanted × ℕ). z .0) both in
           let two : at .address ≡ k = ap (λ (z : Wanted × ℕ). z .1) both in
           rw (one, two) at (g .by t bytes)
 
-  pub good-write : (at : Target) → a .direction ≡ ToWrite → lookingUp f a (length bytes) ≡ ok at → Does (Good me f access-call) (writeTo f at (a .dwords) bytes out)
+  pub good-write : (at : Target) → a .direction ≡ ToWrite → lookingUp f a (length bytes) ≡ ok at
+      → Does (Good me f access-call) (writeTo f at (a .dwords) bytes out)
   good-write at is up =
       let g = goes at up in
       good-send me f access-call _ _ (memoryRequestPacket (f .id) Write (a .dwords) at) bytes (typed-access (headOf (f .id)) (o .id) _ tt (g .inside)) (own-packet me (memoryRequestPacket (f .id) Write (a .dwords) at) (o .own) refl refl) o (λ i. refl)
       (writes (view f) (at .translated) _ (at .address) (served ToWrite is at g _))
 
-  pub good-read : (at : Target) (t : Tag) → a .direction ≡ ToRead → lookingUp f a (length bytes) ≡ ok at → freeTag (f .tags) ≡ Lowest t → Does (Good me f access-call) (readFrom f t at a bytes out)
+  pub good-read : (at : Target) (t : Tag) → a .direction ≡ ToRead → lookingUp f a (length bytes) ≡ ok at
+      → freeTag (f .tags) ≡ Lowest t → Does (Good me f access-call) (readFrom f t at a bytes out)
   good-read at t is up e =
       let g = goes at up in
       let free = free-tag (f .tags) t (o .tags) e in

@@ -33,8 +33,10 @@ module _ (me : Noted) (f : Function) (o : Ok me f) (t : Tag) (own : isTag t ≡ 
   pub at-other : (u : Tag) → eqb (u .0) (t .0) ≡ false → tagState (setTag (f .tags) t after) u ≡ tagState (f .tags) u
   at-other u e = at-tag u ∙ rw e refl
 
-  pub left-ok : (enabled : Bool) (cache : Cache) → SoundCache cache → ((j : ℕ) → entryAt cache j .to < 2 ^ 64) → ((q : PendingTranslation) → after ≡ Translate q → (q .stu ≡ f .stu) × (q .due ≡ 0 → q .whole ≡ 0))
-      → ((i : ITag) → isIn (delayedBy after) i ≡ true → isIn (f .waiting) i ≡ true) → Ok me (left f t enabled cache after)
+  pub left-ok : (enabled : Bool) (cache : Cache) → SoundCache cache → ((j : ℕ) → entryAt cache j .to < 2 ^ 64)
+      → ((q : PendingTranslation) → after ≡ Translate q → (q .stu ≡ f .stu) × (q .due ≡ 0 → q .whole ≡ 0))
+      → ((i : ITag) → isIn (delayedBy after) i ≡ true → isIn (f .waiting) i ≡ true)
+      → Ok me (left f t enabled cache after)
   left-ok enabled cache sound reached begins notes =
       record {
         unit = o .unit;

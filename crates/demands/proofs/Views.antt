@@ -37,7 +37,8 @@ use Rattle.demand3.proofs.Laws.{View, Step, Through}
 use Rattle.demands.specs.Demands.{Asked, Wanted, Cached, terms, Call, Noted, itag, isListed, callTaken, packetSent, isSole, isOurs, isPacket, heldIn}
 
 -- ---- a packet in the Function's name
-pub own-packet : (me : Noted) (p : Packet) → p .head .sender ≡ me .id → p .head .tc ≡ 0 → isSole (p .body) ≡ true → isOurs me (ok p) ≡ true
+pub own-packet : (me : Noted) (p : Packet) → p .head .sender ≡ me .id → p .head .tc ≡ 0 → isSole (p .body) ≡ true
+    → isOurs me (ok p) ≡ true
 own-packet me p own class sole = rw (eq-eqb (p .head .sender) (me .id) own, eq-eqb (p .head .tc) 0 class, sole)
 
 -- ---- one tag
@@ -63,7 +64,8 @@ liveOf (Read r) = false
 
 -- ---- the state
 
-pub no-entry : (stu : ℕ) (x : Entry) → x ≡ noEntry → cond {A = Option Cached} (x .used) (some (record { stu = stu; entry = x })) none ≡ none
+pub no-entry : (stu : ℕ) (x : Entry) → x ≡ noEntry
+    → cond {A = Option Cached} (x .used) (some (record { stu = stu; entry = x })) none ≡ none
 no-entry stu x e = rw e
 
 abbrev pub agentOf : Agent → Option ℕ
@@ -95,7 +97,8 @@ pub record Ok (me : Noted) (f : Function) : Type 0 where
   pub reached : (j : ℕ) → entryAt (f .cache) j .to < 2 ^ 64
   pub tags : length (f .tags) ≡ 32
   -- an open Translation Request has the Function's unit, and a first packet of two has left something due
-  pub begun : (t : Tag) (q : PendingTranslation) → tagState (f .tags) t ≡ Translate q → (q .stu ≡ f .stu) × (q .due ≡ 0 → q .whole ≡ 0)
+  pub begun : (t : Tag) (q : PendingTranslation) → tagState (f .tags) t ≡ Translate q
+      → (q .stu ≡ f .stu) × (q .due ≡ 0 → q .whole ≡ 0)
   pub vector : f .waiting < 2 ^ 32
   -- only ITags that wait are noted, and they wait for someone
   pub noted : (t : Tag) (i : ITag) → isIn (delayedBy (tagState (f .tags) t)) i ≡ true → isIn (f .waiting) i ≡ true
@@ -124,10 +127,13 @@ module _ (me : Noted) (f : Function) (c : Call) where
   good-plain g w o s = does-nothing (Good me f c) g w (record { ok = o; step = rw nothing-reads s; legible = refl; apart = λ i a e. refl })
 
   -- what was sent reads as what it is
-  pub good-send : (g : Function) (w : Unrefused) (p : Packet) (load : List ℕ) → Typed p → isOurs me (ok p) ≡ true → Ok me g → Alone → Effects g (packetSent (me .stu) (c .command) (ok p)) → Does (Good me f c) (sends g w p load (c .out))
+  pub good-send : (g : Function) (w : Unrefused) (p : Packet) (load : List ℕ) → Typed p → isOurs me (ok p) ≡ true
+      → Ok me g → Alone → Effects g (packetSent (me .stu) (c .command) (ok p))
+      → Does (Good me f c) (sends g w p load (c .out))
   good-send g w p load ty ours o alone s = does-write (Good me f c) g w p load (c .out) one
     where
-      one : (n : ℕ) → writing p (length load) (length (c .out)) ≡ ok n → Good me f c (record { state = g; answer = w; sent = n; bytes = bytesOf p load })
+      one : (n : ℕ) → writing p (length load) (length (c .out)) ≡ ok n
+          → Good me f c (record { state = g; answer = w; sent = n; bytes = bytesOf p load })
       one n e =
           let out = take n (bytesOf p load ++ drop (length (bytesOf p load)) (c .out)) in
           let back : reading out ≡ ok p = rw e at (sent-reads p load (c .out) n ty e) in
@@ -153,7 +159,9 @@ quiet v =
     }
 
 -- a write goes out, by an entry where it is translated, and nothing changes
-pub writes : (v : View terms) (x : Bool) (b : Wanted) (k : ℕ) → ((w : Wanted) (j : ℕ) → cond {A = Option (Wanted × ℕ)} x (some (b, k)) none ≡ some (w, j) → Through v w j) → Step 32 v v (record { took = none; sent = some (WRITE x b k) })
+pub writes : (v : View terms) (x : Bool) (b : Wanted) (k : ℕ)
+    → ((w : Wanted) (j : ℕ) → cond {A = Option (Wanted × ℕ)} x (some (b, k)) none ≡ some (w, j) → Through v w j)
+    → Step 32 v v (record { took = none; sent = some (WRITE x b k) })
 writes v x b k served =
     record {
       opens = λ t. refl;

@@ -1,7 +1,8 @@
 -- THE THREE DEMANDS, as statements about the card. Open this file first. Serves 01, "How much each call must settle".
 --
--- `step f c bytes out` is what a call c does to the state f, with the bytes that it is given and the buffer `out` that it is lent. It is a definition (card/specs/Call.antt), and the
--- contract of `card::call` says that the code does just that, for every state, call, packet and buffer.
+-- `step f c bytes out` is what a call c does to the state f, with the bytes that it is given and the buffer `out` that
+-- it is lent. It is a definition (card/specs/Call.antt), and the contract of `card::call` says that the code does just
+-- that, for every state, call, packet and buffer.
 --
 --   Demand 1 · `Demand1`, proved by `demand-1` in proofs/Proved.antt
 --   Demand 2 · `Demand2`, proved by `demand-2`; what it says of packets and states is what the definitions say
@@ -59,8 +60,8 @@ use Rattle.card.proofs.call.Statement.{statement as CallMeetsItsContract}
 use Rattle.demand3.specs.Demand.{given, Terms, Taken, CPL, INV, DRAIN, Sent, TR, READ, WRITE, IC, Observer, Machine, Bench, waits, next, resets, stateAfter, history, Unbroken, Order}
 
 -- ---- DEMAND 1: a refusal is one of 17 numbers, of those on its call's own list, and leaves state and buffer as they were.
--- That nothing traps, overruns or hangs is not said here: it is what a proved function is. No public function has a `requires`, so it holds for all arguments. When a call is
--- refused, and with which number first, is what `step` says.
+-- That nothing traps, overruns or hangs is not said here: it is what a proved function is. No public function has a
+-- `requires`, so it holds for all arguments. When a call is refused, and with which number first, is what `step` says.
 
 pub record Refusing (f : Function) (c : Command) (bytes out : List ℕ) (n : ℕ) : Type 0 where
   pub state : step f c bytes out .state ≡ f
@@ -70,19 +71,26 @@ pub record Refusing (f : Function) (c : Command) (bytes out : List ℕ) (n : ℕ
   pub among : (1 ≤ n) × (n ≤ 17)
 
 abbrev pub Demand1 : Type 0
-Demand1 = (f : Function) (c : Command) (bytes out : List ℕ) (n : ℕ) → step f c bytes out .answer ≡ refusal n → Refusing f c bytes out n
+Demand1 =
+    (f : Function) (c : Command) (bytes out : List ℕ) (n : ℕ) → step f c bytes out .answer ≡ refusal n
+    → Refusing f c bytes out n
 
 -- ---- DEMAND 2: packets and states are those of the papers, and no other.
--- That is what the definitions say which the contracts cite: packet/specs (`reading`, `writing`) and card/specs/Call.antt (`step`, and what it leads to); they have to be read. Here
--- stands that the code of `card::call` meets its contract: it ends, and does what `step` says. (The checker makes this statement of the `ensures` in card/src/lib.rt, for every M, the
--- resources that the program logic reckons with.) And what shows that the definitions fit together: what is written reads as the same packet; what is read can be written, and gives
--- the same bytes but for the bits that no field names; 4 is given for just the values that 01 forbids, said once more phrase by phrase; and every state that calls reach has 32 slots
--- with at most one entry a unit, 32 tags, 32 groups and no more credits in use than were allowed.
+-- That is what the definitions say which the contracts cite: packet/specs (`reading`, `writing`) and
+-- card/specs/Call.antt (`step`, and what it leads to); they have to be read. Here stands that the code of `card::call`
+-- meets its contract: it ends, and does what `step` says. (The checker makes this statement of the `ensures` in
+-- card/src/lib.rt, for every M, the resources that the program logic reckons with.) And what shows that the
+-- definitions fit together: what is written reads as the same packet; what is read can be written, and gives the same
+-- bytes but for the bits that no field names; 4 is given for just the values that 01 forbids, said once more phrase by
+-- phrase; and every state that calls reach has 32 slots with at most one entry a unit, 32 tags, 32 groups and no more
+-- credits in use than were allowed.
 
 pub record Demand2 : Type 2 where
   pub code : {M : Type 1} → CallMeetsItsContract M
-  pub written : (p : Packet) (payload : List ℕ) (room n : ℕ) → Typed p → writing p (length payload) room ≡ ok n → (reading (bytesOf p payload) ≡ ok p) × (payloadIn (bytesOf p payload) ≡ payload)
-  pub read : (b : List ℕ) (p : Packet) → Bytes b → reading b ≡ ok p → (writing p (length (payloadIn b)) (length b) ≡ ok (length b)) × (bytesOf p (payloadIn b) ≡ normal b)
+  pub written : (p : Packet) (payload : List ℕ) (room n : ℕ) → Typed p → writing p (length payload) room ≡ ok n
+      → (reading (bytesOf p payload) ≡ ok p) × (payloadIn (bytesOf p payload) ≡ payload)
+  pub read : (b : List ℕ) (p : Packet) → Bytes b → reading b ≡ ok p
+      → (writing p (length (payloadIn b)) (length b) ≡ ok (length b)) × (bytesOf p (payloadIn b) ≡ normal b)
   pub forbids : (b : List ℕ) → reading b ≡ readingByPhrases b
   pub forbidsWriting : (p : Packet) (load room : ℕ) → Typed p → writing p load room ≡ writingByPhrases p load room
   pub starts : (id stu : ℕ) (rcb : Rcb) → Sound (fresh id stu rcb)
@@ -97,8 +105,9 @@ pub record Demand2 : Type 2 where
 --   it waits until an unrefused drain call comes with those reads closed              `waits`; and, below, `NineWhileWaiting`
 --   from one accepted reset to the next                                               `Order` and `Unbroken`
 --
--- and, beyond these words, `through` says that what is not cached is not used either, and `tags`, `legible`, `apart` and `silent` that no request, read or completion that was sent
--- is overlooked. Here is what it is stated of: what is seen of a call on the card, what its cache holds, and what overlaps. As there, lists of calls stand newest first.
+-- and, beyond these words, `through` says that what is not cached is not used either, and `tags`, `legible`, `apart`
+-- and `silent` that no request, read or completion that was sent is overlooked. Here is what it is stated of: what is
+-- seen of a call on the card, what its cache holds, and what overlaps. As there, lists of calls stand newest first.
 
 -- ---- what packets speak of
 
@@ -107,7 +116,8 @@ pub record Asked : Type 0 where
   pub stu : ℕ
   pub range : Range
 
--- the bytes that an access asks for, from the address that the call was given on, whatever address was sent; one that no call asked for could be of any
+-- the bytes that an access asks for, from the address that the call was given on, whatever address was sent; one that
+-- no call asked for could be of any
 pub record Wanted : Type 0 where
   pub address : Option ℕ
   pub bytes : ℕ
@@ -131,8 +141,8 @@ sameEntry x y =
 abbrev pub isGranted : Translation → ℕ → Entry → Bool
 isGranted t e x = allowsAccess t && sameEntry x (entryOf t e (x .unit))
 
--- One of the payload's translations grants the entry: the one over the entry's unit, counted from the region of the first byte asked for, after the
--- regions that came in an earlier packet. All have the size of the payload's first.
+-- One of the payload's translations grants the entry: the one over the entry's unit, counted from the region of the
+-- first byte asked for, after the regions that came in an earlier packet. All have the size of the payload's first.
 abbrev pub isGiven : ℕ → ℕ → List ℕ → Entry → Bool
 isGiven first regions load x =
     let e = exponentOr0 (translationAt load 0 .size) in
@@ -143,7 +153,8 @@ isGiven first regions load x =
 abbrev pub isReplied : Asked → ℕ → Reply → Cached → Bool
 isReplied q came d x = eqb (x .stu) (q .stu) && (isWithin (regionOf (x .entry .unit) (unitExponent (q .stu))) (q .range) && isGiven (q .range .first) (came / 8) (d .load) (x .entry))
 
--- the entry's unit holds the address asked for, and the address sent has the same place in what the unit is translated to
+-- the entry's unit holds the address asked for, and the address sent has the same place in
+-- what the unit is translated to
 abbrev pub isServed : Cached → Wanted → ℕ → Bool
 isServed x b to =
     given (b .address)
@@ -252,11 +263,13 @@ abbrev pub outcomeTaken : ℕ → ℕ → List ℕ → Outcome → Option (Taken
 outcomeTaken tag count load (Data dwords) = some (CPL tag (some (record { count = count; load = load })))
 outcomeTaken tag count load (Status status) = cond (eqb status 0) none (some (CPL tag none))
 
--- a completion for this Function, or an Invalidate Request with its range rounded up to the unit, that is received, and from whom
+-- a completion for this Function, or an Invalidate Request with its range rounded up to the unit,
+-- that is received, and from whom
 abbrev pub bodyTaken : Noted → List ℕ → ℕ → Body → Option (Taken terms)
 bodyTaken me load from (Tr t) = none
 bodyTaken me load from (Mem m) = none
-bodyTaken me load from (Cpl c) = cond (eqb (c .requester) (me .id)) (outcomeTaken (c .tag .0) (c .count) load (c .outcome)) none
+bodyTaken me load from (Cpl c) =
+    cond (eqb (c .requester) (me .id)) (outcomeTaken (c .tag .0) (c .count) load (c .outcome)) none
 bodyTaken me load from (Inv i) =
     some (INV (record { agent = from; number = bitIndex (i .itag) }) (roundedOf (i .address) (exponentOr64 (sizeOf (i .address) (i .sized))) (unitExponent (me .stu))))
 bodyTaken me load from (Ic i) = none
@@ -288,11 +301,14 @@ isListed v k = ltb k 32 && isIn v (itag k)
 
 -- a Translation Request, a read, a write or an Invalidate Completion that is sent
 abbrev pub accessSent : Command → ℕ → ℕ → Bool → Access → Option (Sent terms)
-accessSent c dwords to translated (Read t) = some (READ (t .0) translated (record { address = addressFor ToRead c; bytes = 4 * dwordCount dwords }) to)
-accessSent c dwords to translated Write = some (WRITE translated (record { address = addressFor ToWrite c; bytes = 4 * dwordCount dwords }) to)
+accessSent c dwords to translated (Read t) =
+    some (READ (t .0) translated (record { address = addressFor ToRead c; bytes = 4 * dwordCount dwords }) to)
+accessSent c dwords to translated Write =
+    some (WRITE translated (record { address = addressFor ToWrite c; bytes = 4 * dwordCount dwords }) to)
 
 abbrev pub bodySent : ℕ → Command → Body → Option (Sent terms)
-bodySent stu c (Tr t) = some (TR (t .tag .0) (record { stu = stu; range = unitsFrom (t .address) (dwordCount (t .dwords) / 2 - 1) stu }))
+bodySent stu c (Tr t) =
+    some (TR (t .tag .0) (record { stu = stu; range = unitsFrom (t .address) (dwordCount (t .dwords) / 2 - 1) stu }))
 bodySent stu c (Mem m) = accessSent c (m .dwords) (m .address) (m .translated) (m .access)
 bodySent stu c (Cpl x) = none
 bodySent stu c (Inv i) = none
@@ -322,7 +338,8 @@ isOurs me (refusal n) = false
 abbrev pub isPacket : Noted → List ℕ → Bool
 isPacket me bytes = eqb (length bytes) 0 || isOurs me (reading bytes)
 
--- Of a call is seen its command, the bytes that it was given and those that it sent, whether it was refused, and the ID and STU of the last accepted reset.
+-- Of a call is seen its command, the bytes that it was given and those that it sent, whether it was refused, and the ID
+-- and STU of the last accepted reset.
 abbrev pub observer : Observer terms
 observer =
     record {
@@ -356,10 +373,11 @@ card =
       held = heldIn;
     }
 
--- After any calls that hold no accepted reset: an Invalidate Request for the Function, whatever its range, is refused with 9 exactly where its ITag, of its agent, waits, read from
--- the calls alone.
+-- After any calls that hold no accepted reset: an Invalidate Request for the Function, whatever its range, is refused
+-- with 9 exactly where its ITag, of its agent, waits, read from the calls alone.
 abbrev pub NineWhileWaiting : Bench card → Type 0
-NineWhileWaiting begin = (calls : List Call) → Unbroken card begin calls → (bytes out : List ℕ) (p : Packet) (i : InvalidateRequest)
+NineWhileWaiting begin =
+    (calls : List Call) → Unbroken card begin calls → (bytes out : List ℕ) (p : Packet) (i : InvalidateRequest)
     → reading bytes ≡ ok p → p .body ≡ Inv i → i .device ≡ stateAfter card begin calls .notes .id
     → (step (stateAfter card begin calls .fn) Receive bytes out .answer ≡ refusal 9) ↔ (waits 32 (record { agent = p .head .sender; number = bitIndex (i .itag) }) (history card begin calls) ≡ true)
 

@@ -107,14 +107,16 @@ abbrev answer : Function → Command → List ℕ → Result Unrefused
 answer f c bytes = step f c bytes buffer .answer
 
 abbrev started : ℕ → Function
-started stu = functionAfter (fresh 0 0 B64) ((Reset (record { id = 0x0100; stu = stu; rcb = 64 }), []) ∷ (Enable, []) ∷ [])
+started stu =
+    functionAfter (fresh 0 0 B64) ((Reset (record { id = 0x0100; stu = stu; rcb = 64 }), []) ∷ (Enable, []) ∷ [])
 
 abbrev ask : ℕ → ℕ → Command
 ask address units = Ask (record { address = address; units = units; nowrite = false })
 
 -- a completion for tag 0 of Function 0100h with one translation, Byte Count 8, Lower Address 56
 abbrev reply : ℕ → ℕ → List ℕ
-reply high low = fourBytes 0x4A00_0002 ++ fourBytes 0x0008_0008 ++ fourBytes 0x0100_0038 ++ fourBytes high ++ fourBytes low
+reply high low =
+    fourBytes 0x4A00_0002 ++ fourBytes 0x0008_0008 ++ fourBytes 0x0100_0038 ++ fourBytes high ++ fourBytes low
 
 -- and what it sends: the answer, the length, the buffer after the call
 abbrev outcome : Function → Command → List ℕ → Result Unrefused × ℕ × List ℕ
@@ -126,7 +128,8 @@ reads f address = lookingUp f (record { direction = ToRead; address = address; d
 
 -- example 1: 3 units from 0 at STU 0, answered by 16384 bytes at 4000 0000h with R and W, then an Invalidate Request
 abbrev invalidated-by : ℕ → Function
-invalidated-by low = functionAfter (started 0) ((ask 0 3, []) ∷ (Receive, reply 0 0x4000_1803) ∷ (Receive, invalidate 0 low) ∷ [])
+invalidated-by low =
+    functionAfter (started 0) ((ask 0 3, []) ∷ (Receive, reply 0 0x4000_1803) ∷ (Receive, invalidate 0 low) ∷ [])
 
 -- example 4: 203000h asked for at STU 0, and answered by 2 MiB at 4000 0000h with R and W
 abbrev afterFill : Function
@@ -134,7 +137,8 @@ afterFill = functionAfter (started 0) ((ask 0x203000 1, []) ∷ (Receive, reply 
 
 -- example 5: 2 units from 0FFF FFFF C000h at STU 2, then an Invalidate Request
 abbrev afterInvalidate : Function
-afterInvalidate = functionAfter (started 2) ((ask 0x0FFF_FFFF_C000 2, []) ∷ (Receive, invalidate 0x0000_1000 0x0000_1800) ∷ [])
+afterInvalidate =
+    functionAfter (started 2) ((ask 0x0FFF_FFFF_C000 2, []) ∷ (Receive, invalidate 0x0000_1000 0x0000_1800) ∷ [])
 
 abbrev examples : List Example
 examples =

@@ -1,4 +1,5 @@
--- Wrong cards, each refused by demand 3 alone, on a run that the checker computes. Each is the card but for what is said of it, as far as that run goes.
+-- Wrong cards, each refused by demand 3 alone, on a run that the checker computes. Each is the card but for what is
+-- said of it, as far as that run goes.
 use mathlib.Core.Path.{_≡_, refl, sym}
 use mathlib.Core.Bool.{Bool, true, false, cond, _||_}
 use mathlib.Core.List.{List, [], _∷_, map}
@@ -103,7 +104,8 @@ lively = marking revived
 abbrev unnoted : TagState → TagState
 unnoted Free = Free
 unnoted (Translate q) = Translate q
-unnoted (Reading x) = Reading (record { address = x .address; bytes = x .bytes; due = x .due; translated = x .translated; itags = 0 })
+unnoted (Reading x) =
+    Reading (record { address = x .address; bytes = x .bytes; due = x .due; translated = x .translated; itags = 0 })
 
 abbrev hasty : Function → Call → Observed
 hasty = marking unnoted
@@ -112,12 +114,14 @@ hasty = marking unnoted
 abbrev leftIn : (PendingRead → ℕ → TagState) → Function → Observed → Tag → ℕ → TagState → Observed
 leftIn left f r t n Free = r
 leftIn left f r t n (Translate q) = r
-leftIn left f r t n (Reading x) = record { state = withTag f t (left x n); answer = ok payloadLast; sent = 0; buffer = r .buffer }
+leftIn left f r t n (Reading x) =
+    record { state = withTag f t (left x n); answer = ok payloadLast; sent = 0; buffer = r .buffer }
 
 abbrev countingOn : (PendingRead → ℕ → TagState) → Function → Observed → Option (Taken terms) → Observed
 countingOn left f r none = r
 countingOn left f r (some (CPL t none)) = r
-countingOn left f r (some (CPL t (some d))) = leftIn left f r (record { 0 = t }) (length (d .load)) (tagState (f .tags) (record { 0 = t }))
+countingOn left f r (some (CPL t (some d))) =
+    leftIn left f r (record { 0 = t }) (length (d .load)) (tagState (f .tags) (record { 0 = t }))
 countingOn left f r (some (INV i a)) = r
 countingOn left f r (some (DRAIN n)) = r
 
@@ -138,7 +142,8 @@ hider f c = let r = honest f c in by (brings c) r (record { state = f; answer = 
 
 -- a drain has nothing to send for ever
 abbrev silent : Function → Call → Observed
-silent f c = let r = honest f c in by (brings c) r r (record { state = f; answer = ok (carries 0); sent = 0; buffer = c .out }) r
+silent f c =
+    let r = honest f c in by (brings c) r r (record { state = f; answer = ok (carries 0); sent = 0; buffer = c .out }) r
 
 -- it reports a packet's length and writes nothing
 abbrev unwritten : Function → Call → Observed
@@ -305,8 +310,10 @@ abbrev start : (M : Machine observer) → Bench M
 start M = record { fn = M .new; notes = record { id = 0; stu = 0 } }
 
 -- from a new Function, an overlapping entry was brought by one of the calls since the request
-shown : (M : Machine observer) → Order M → (before : List Call) (c : Call) (since : List Call) → Completed M (start M) before c since three page → (j : ℕ) (e : Cached)
-    → M .held (stateAfter M (stateAfter M (start M) (c ∷ before)) since .fn) j ≡ some e → terms .overlaps page e ≡ true → broughtIn M e (stateAfter M (start M) (c ∷ before)) since ≡ true
+shown : (M : Machine observer) → Order M → (before : List Call) (c : Call) (since : List Call)
+    → Completed M (start M) before c since three page → (j : ℕ) (e : Cached)
+    → M .held (stateAfter M (stateAfter M (start M) (c ∷ before)) since .fn) j ≡ some e → terms .overlaps page e ≡ true
+    → broughtIn M e (stateAfter M (start M) (c ∷ before)) since ≡ true
 shown M d before c since z j e p o = brought M j e _ since (d .new .entries before c since three page z j e p o)
 
 -- none of them keeps demand 3

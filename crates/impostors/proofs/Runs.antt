@@ -44,7 +44,8 @@ ask = simply (Ask (record { address = 0x5000; units = 1; nowrite = false })) ref
 abbrev pub read : Call
 read = simply (Access (record { direction = Read; address = 0x5000; dwords = 2 })) refl
 
--- a completion with one translation, of a page with R and W: 10 0000h for tag 0, the same for tag 1, and 20 0000h for tag 0
+-- a completion with one translation, of a page with R and W: 10 0000h for tag 0, the same for
+-- tag 1, and 20 0000h for tag 0
 abbrev pub granted : Call
 granted = receive (fourBytes 0x4A00_0002 ++ fourBytes 0x0008_0008 ++ fourBytes 0x0000_0038 ++ fourBytes 0 ++ fourBytes 0x0010_0003) refl
 
@@ -125,13 +126,16 @@ fresher = record { stu = 0; entry = record { used = true; r = true; w = true; n 
 abbrev pub large : Bench card
 large = next card begin (simply (Reset (record { id = 0; stu = 1; rcb = 64 })) refl)
 
--- 8192 bytes at 10 0000h, and a read of the lower half of the unit at 4000h, of which the request names only the upper half
+-- 8192 bytes at 10 0000h, and a read of the lower half of the unit at 4000h, of which the
+-- request names only the upper half
 abbrev pub warmLarge : List Call
 warmLarge = simply (Access (record { direction = Read; address = 0x4000; dwords = 2 })) refl ∷ receive (fourBytes 0x4A00_0002 ++ fourBytes 0x0008_0008 ++ fourBytes 0x0000_0038 ++ fourBytes 0 ++ fourBytes 0x0010_0803) refl ∷ ask ∷ enable ∷ []
 
--- What is to be seen there: the read is open; the request is accepted; the first drains send nothing, the ITag waits, and the same request is refused with 9; then one completion is sent,
--- it waits no longer, and the request can come again; the old entry is gone, the old reply brings nothing; the new one brings the new page, in slot 0, and is what it came from; the old
--- read is closed. With units of 8192 bytes the request is for the whole unit: its entry is gone at once, and the read in its lower half holds the completion back until it ends.
+-- What is to be seen there: the read is open; the request is accepted; the first drains send nothing, the ITag waits,
+-- and the same request is refused with 9; then one completion is sent, it waits no longer, and the request can come
+-- again; the old entry is gone, the old reply brings nothing; the new one brings the new page, in slot 0, and is what
+-- it came from; the old read is closed. With units of 8192 bytes the request is for the whole unit: its entry is gone
+-- at once, and the read in its lower half holds the completion back until it ends.
 pub record Happens : Type 0 where
   pub opens : readIn page (openAt 0 (history card begin warm)) ≡ some (fetch true (record { address = some 0x5000; bytes = 8 }) 8)
   pub arrives : accepts three (seen card (stateAfter card begin warm) request .took) ≡ some page

@@ -29,7 +29,8 @@ byCases true f g = f refl
 byCases false f g = g refl
 
 -- what holds in both cases of a test holds of what the test chooses
-pub either-case : {A : Type 0} (P : A → Type 0) (t : Bool) (a b : A) → (t ≡ true → P a) → (t ≡ false → P b) → P (cond t a b)
+pub either-case : {A : Type 0} (P : A → Type 0) (t : Bool) (a b : A) → (t ≡ true → P a) → (t ≡ false → P b)
+    → P (cond t a b)
 either-case P true a b f g = f refl
 either-case P false a b f g = g refl
 

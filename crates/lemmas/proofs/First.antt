@@ -16,11 +16,13 @@ module _ {A : Type 0} (p : A → Bool) (l : List A) where
   pub first-start : firstIndex p l ≡ 0 + firstIndex p (drop 0 l)
   first-start = sym (zero-add (firstIndex p l))
 
-  pub first-step : (i : ℕ) (d : A) → i < length l → p (getD l i d) ≡ false → firstIndex p l ≡ i + firstIndex p (drop i l) → firstIndex p l ≡ (i + 1) + firstIndex p (drop (i + 1) l)
+  pub first-step : (i : ℕ) (d : A) → i < length l → p (getD l i d) ≡ false
+      → firstIndex p l ≡ i + firstIndex p (drop i l) → firstIndex p l ≡ (i + 1) + firstIndex p (drop (i + 1) l)
   unfolding firstIndex
   first-step i d h e inv = inv ∙ rw (drop-cons l i d h, e, add-one i) (omega arith)
 
-  pub first-here : (i : ℕ) (d : A) → i < length l → p (getD l i d) ≡ true → firstIndex p l ≡ i + firstIndex p (drop i l) → i ≡ firstIndex p l
+  pub first-here : (i : ℕ) (d : A) → i < length l → p (getD l i d) ≡ true → firstIndex p l ≡ i + firstIndex p (drop i l)
+      → i ≡ firstIndex p l
   unfolding firstIndex
   first-here i d h e inv = sym (inv ∙ rw (drop-cons l i d h, e) (add-zero i))
 
@@ -38,12 +40,15 @@ first-le p (x ∷ xs) = go (p x) (first-le p xs)
     go false h = omega arith
 
 -- what is found passes the test
-pub first-holds : {A : Type 0} (p : A → Bool) (l : List A) (d : A) → firstIndex p l < length l → p (getD l (firstIndex p l) d) ≡ true
+pub first-holds : {A : Type 0} (p : A → Bool) (l : List A) (d : A) → firstIndex p l < length l
+    → p (getD l (firstIndex p l) d) ≡ true
 unfolding firstIndex
 first-holds p [] d h = absurd (omega arith)
 first-holds p (x ∷ xs) d h = go (p x) refl (λ k. first-holds p xs d k) h
   where
-    go : (b : Bool) → p x ≡ b → (firstIndex p xs < length xs → p (getD xs (firstIndex p xs) d) ≡ true) → cond b zero (suc (firstIndex p xs)) < suc (length xs) → p (getD (x ∷ xs) (cond b zero (suc (firstIndex p xs))) d) ≡ true
+    go : (b : Bool) → p x ≡ b → (firstIndex p xs < length xs → p (getD xs (firstIndex p xs) d) ≡ true)
+        → cond b zero (suc (firstIndex p xs)) < suc (length xs)
+        → p (getD (x ∷ xs) (cond b zero (suc (firstIndex p xs))) d) ≡ true
     go true e f k = e
     go false e f k = f (omega arith)
 
@@ -57,7 +62,8 @@ first-least p (x ∷ xs) d (suc i) e =
 
 module _ {A : Type 0} (p : A → Bool) where
   -- what is stored where none before it passes is found if it passes,
-  pub first-set : (l : List A) (k : ℕ) (y : A) → k < length l → k ≤ firstIndex p l → p y ≡ true → firstIndex p (set l k y) ≡ k
+  pub first-set : (l : List A) (k : ℕ) (y : A) → k < length l → k ≤ firstIndex p l → p y ≡ true
+      → firstIndex p (set l k y) ≡ k
   unfolding firstIndex
   first-set [] k y h g e = absurd (not-suc-le-zero h)
   first-set (x ∷ xs) zero y h g e = rw e
@@ -67,7 +73,8 @@ module _ {A : Type 0} (p : A → Bool) where
       (λ t. rw (t, first-set xs k y (le-of-suc-le-suc h) (le-of-suc-le-suc (rw t at g)) e))
 
   -- and what does not pass changes nothing in the place of what does not
-  pub first-other : (l : List A) (k : ℕ) (y d : A) → p (getD l k d) ≡ false → p y ≡ false → firstIndex p (set l k y) ≡ firstIndex p l
+  pub first-other : (l : List A) (k : ℕ) (y d : A) → p (getD l k d) ≡ false → p y ≡ false
+      → firstIndex p (set l k y) ≡ firstIndex p l
   unfolding firstIndex
   first-other [] k y d e g = refl
   first-other (x ∷ xs) zero y d e g = rw (e, g)

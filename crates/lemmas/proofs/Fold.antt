@@ -16,12 +16,14 @@ module _ {A : Type 0} (op : ℕ → ℕ → ℕ) (f : A → ℕ) where
   foldMap-start n l e = rw (← e, drop-length l)
 
   -- and in a turn
-  pub foldMap-turn : {v w : ℕ} (i : ℕ) (d : A) (l : List A) → i < length l → v ≡ foldMap op f (drop (i + 1) l) → w ≡ f (getD l i d) → op w v ≡ foldMap op f (drop i l)
+  pub foldMap-turn : {v w : ℕ} (i : ℕ) (d : A) (l : List A) → i < length l → v ≡ foldMap op f (drop (i + 1) l)
+      → w ≡ f (getD l i d) → op w v ≡ foldMap op f (drop i l)
   unfolding foldMap
   foldMap-turn {v} {w} i d l h inv e = rw (drop-cons l i d h, e, inv, add-one i)
 
 -- in a sum one element is replaced: its own number goes and the new one's comes
-pub sum-set : {A : Type 0} (f : A → ℕ) (l : List A) (k : ℕ) (y d : A) → k < length l → foldMap _+_ f (set l k y) + f (getD l k d) ≡ foldMap _+_ f l + f y
+pub sum-set : {A : Type 0} (f : A → ℕ) (l : List A) (k : ℕ) (y d : A) → k < length l
+    → foldMap _+_ f (set l k y) + f (getD l k d) ≡ foldMap _+_ f l + f y
 unfolding foldMap
 sum-set f [] k y d h = absurd (not-suc-le-zero h)
 sum-set f (x ∷ xs) zero y d h = omega arith

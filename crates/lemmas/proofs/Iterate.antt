@@ -11,12 +11,14 @@ module _ {S : Type 0} (step : ℕ → S → S) where
   iterate-start s = refl
 
   -- one turn of a loop: next is the state so far, and y the state that the turn makes
-  pub iterate-turn : {next y : S} (k : ℕ) (s : S) → next ≡ iterate step k s → y ≡ step k next → y ≡ iterate step (k + 1) s
+  pub iterate-turn : {next y : S} (k : ℕ) (s : S) → next ≡ iterate step k s → y ≡ step k next
+      → y ≡ iterate step (k + 1) s
   unfolding iterate
   iterate-turn k s inv e = rw add-one (e ∙ ap (step k) inv)
 
 -- What holds of the first state, and is kept by each step, holds of the last.
-pub iterate-invariant : {S : Type 0} (step : ℕ → S → S) (P : S → Type 0) (n : ℕ) (s : S) → P s → ((k : ℕ) (r : S) → k < n → P r → P (step k r)) → P (iterate step n s)
+pub iterate-invariant : {S : Type 0} (step : ℕ → S → S) (P : S → Type 0) (n : ℕ) (s : S) → P s
+    → ((k : ℕ) (r : S) → k < n → P r → P (step k r)) → P (iterate step n s)
 unfolding iterate
 iterate-invariant step P zero s h f = h
 iterate-invariant step P (suc n) s h f = f n (iterate step n s) (lt-suc-self n) (iterate-invariant step P n s h (λ k r l q. f k r (lt-trans l (lt-suc-self n)) q))

@@ -29,11 +29,13 @@ module _ {A : Type 0} (f : A → A) where
   map-read (suc i) d (x ∷ l) = map-read i d l
 
   -- one turn: next is the list so far, and y what the turn stores
-  pub map-turn : {next : List A} {y : A} (i : ℕ) (d : A) (l : List A) → i < length l → next ≡ mapTo f i l → y ≡ f (getD next i d) → set next i y ≡ mapTo f (i + 1) l
+  pub map-turn : {next : List A} {y : A} (i : ℕ) (d : A) (l : List A) → i < length l → next ≡ mapTo f i l
+      → y ≡ f (getD next i d) → set next i y ≡ mapTo f (i + 1) l
   map-turn {next} {y} i d l h inv e = rw (e, inv, map-read i d l, add-one) (step-suc i d l h)
 
   -- a turn that stores nothing, since the element is its own image
-  pub map-keep : {next : List A} (i : ℕ) (d : A) (l : List A) → i < length l → next ≡ mapTo f i l → getD next i d ≡ f (getD next i d) → next ≡ mapTo f (i + 1) l
+  pub map-keep : {next : List A} (i : ℕ) (d : A) (l : List A) → i < length l → next ≡ mapTo f i l
+      → getD next i d ≡ f (getD next i d) → next ≡ mapTo f (i + 1) l
   map-keep {next} i d l h inv e =
       let here : getD l i d ≡ f (getD l i d) = rw (inv, map-read i d l) at e in
       rw (inv, add-one) (same-suc i d l h here)
@@ -50,7 +52,8 @@ module _ {A : Type 0} (f : A → A) where
   map-end (suc i) (x ∷ l) h = ap (λ (t : List A). f x ∷ t) (map-end i l (le-of-suc-le-suc h))
 
 -- after one store every element is what it was, or is what was stored
-pub set-or : {A : Type 0} (l : List A) (k i : ℕ) (y d : A) → (getD (set l k y) i d ≡ getD l i d) ⊎ ((i ≡ k) × (getD (set l k y) i d ≡ y))
+pub set-or : {A : Type 0} (l : List A) (k i : ℕ) (y d : A)
+    → (getD (set l k y) i d ≡ getD l i d) ⊎ ((i ≡ k) × (getD (set l k y) i d ≡ y))
 set-or [] k i y d = inl refl
 set-or (x ∷ l) zero zero y d = inr (refl, refl)
 set-or (x ∷ l) zero (suc i) y d = inl refl

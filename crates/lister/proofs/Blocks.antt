@@ -62,7 +62,8 @@ takes-all k n room h m =
     let numbered : n ≤ 2 ^ 64 - 1 - k = omega arith in
     rw (min-eq-left few) (min-eq-left numbered)
 
-pub fed-whole : (from : Progress) (hold b out : List ℕ) → 289 ≤ length hold → length b * 64 ≤ length out → from .number + length b < 2 ^ 64
+pub fed-whole : (from : Progress) (hold b out : List ℕ) → 289 ≤ length hold → length b * 64 ≤ length out
+    → from .number + length b < 2 ^ 64
     → fed from hold b out ≡ left (from .number) (startIn (from .held) hold) hold b out (length b)
 unfolding fed
 fed-whole from hold b out h room few = rw (le-ltb (length hold) 289 h, takes-all (from .number) (length b) (length out) room few, take-all (length b) b (omega arith))
@@ -70,8 +71,10 @@ fed-whole from hold b out h room few = rw (le-ltb (length hold) 289 h, takes-all
 -- ---- every step
 
 -- the joined parts, for a line of which p is held
-parts : (n : ℕ) (from : Progress) (hold out p : List ℕ) (bs : List (List ℕ)) → 289 ≤ length hold → 64 ≤ length out → n * 64 ≤ length out → AllAtMost n bs
-    → from .number + length (concat bs) < 2 ^ 64 → startIn (from .held) hold ≡ p → concat (handedOut from hold out bs) ≡ inPieces (from .number) p bs
+parts : (n : ℕ) (from : Progress) (hold out p : List ℕ) (bs : List (List ℕ)) → 289 ≤ length hold → 64 ≤ length out
+    → n * 64 ≤ length out → AllAtMost n bs
+    → from .number + length (concat bs) < 2 ^ 64 → startIn (from .held) hold ≡ p
+    → concat (handedOut from hold out bs) ≡ inPieces (from .number) p bs
 unfolding handedOut inPieces concat AllAtMost finished rowIn
 parts n from hold out p [] h o r all few e =
     rw (e, le-ltb (length out) 64 o) (append-nil _ ∙ take-at (lastText (from .number) p) (drop (length (lastText (from .number) p)) out) (length (lastText (from .number) p)) refl)
@@ -88,4 +91,5 @@ parts n from hold out p (b ∷ bs) h o r all few e =
     rw (fed-whole from hold b out h room (omega arith), e, take-at text (drop (length text) out) (length text) refl, again)
 
 pub any-blocks : AnyBlocks
-any-blocks n hold out bs f = parts n initialProgress hold out [] bs (f .0) (f .1) (f .2) (f .3) (f .4) refl ∙ any-pieces bs
+any-blocks n hold out bs f =
+    parts n initialProgress hold out [] bs (f .0) (f .1) (f .2) (f .3) (f .4) refl ∙ any-pieces bs

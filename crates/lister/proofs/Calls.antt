@@ -1,4 +1,5 @@
--- What a caller needs of a call: that it stays within what was lent, and that the next call finds what the last one kept.
+-- What a caller needs of a call: that it stays within what was lent, and that the next call
+-- finds what the last one kept.
 use Prim.Native.Nat.{ℕ, _≤_, min}
 use mathlib.Core.Path.{_≡_, refl, ap}
 use mathlib.Core.Bool.{cond}
@@ -20,12 +21,14 @@ module _ (from : Progress) (hold block out : List ℕ) (r : Fed) (h o : List ℕ
       start-within (printed (from .number) (startIn (from .held) hold) (take (cond (ltb (length hold) 289) 0 (takes (from .number) (length block) (length out))) block)) out (r .ready) o
       (ap (λ (x : Fed × List ℕ × List ℕ). (x .0 .ready, x .2)) e) l
 
-pub finish-readies : (from : Progress) (hold out : List ℕ) (n : ℕ) (o : List ℕ) → (n, o) ≡ finished from hold out → length o ≡ length out → n ≤ length out
+pub finish-readies : (from : Progress) (hold out : List ℕ) (n : ℕ) (o : List ℕ) → (n, o) ≡ finished from hold out
+    → length o ≡ length out → n ≤ length out
 unfolding finished
 finish-readies from hold out n o e l = row-within (lastText (from .number) (startIn (from .held) hold)) out n o e l
 
 -- what is held after a piece is the start of the line that the piece left
-pub start-kept : (s hold : List ℕ) → startIn (length (first289 s)) (first289 s ++ drop (length (first289 s)) hold) ≡ first289 s
+pub start-kept : (s hold : List ℕ)
+    → startIn (length (first289 s)) (first289 s ++ drop (length (first289 s)) hold) ≡ first289 s
 start-kept s hold =
     let few : length (first289 s) ≤ 289 = rw length-take (min-le-left 289 (length s)) in
     rw (min-eq-left few) (take-at (first289 s) (drop (length (first289 s)) hold) (length (first289 s)) refl)

@@ -36,12 +36,14 @@ startAfter-append p (c ∷ a) b =
     (λ i. cond (eqb c 10) (startAfter-append [] a b i) (startAfter-append (p ++ c ∷ []) a b i))
     ∙ choose-start (λ q. startAfter q b) (eqb c 10) (startAfter [] a) (startAfter (p ++ c ∷ []) a)
 
-printed-step : (t : Bool) (l x y u v : List ℕ) (f : ℕ → List ℕ → List ℕ) (m n : ℕ) (p q : List ℕ) → x ≡ u ++ f m p → y ≡ v ++ f n q
+printed-step : (t : Bool) (l x y u v : List ℕ) (f : ℕ → List ℕ → List ℕ) (m n : ℕ) (p q : List ℕ) → x ≡ u ++ f m p
+    → y ≡ v ++ f n q
     → cond t (l ++ x) y ≡ cond t (l ++ u) v ++ f (cond t m n) (cond t p q)
 printed-step true l x y u v f m n p q d e = ap (λ (s : List ℕ). l ++ s) d ∙ sym (append-assoc l u (f m p))
 printed-step false l x y u v f m n p q d e = e
 
-pub printed-append : (k : ℕ) (p a b : List ℕ) → printed k p (a ++ b) ≡ printed k p a ++ printed (numberAfter k a) (startAfter p a) b
+pub printed-append : (k : ℕ) (p a b : List ℕ)
+    → printed k p (a ++ b) ≡ printed k p a ++ printed (numberAfter k a) (startAfter p a) b
 unfolding printed numberAfter startAfter
 printed-append k p [] b = refl
 printed-append k p (c ∷ a) b =
@@ -115,7 +117,8 @@ rest-cut k p cs =
     (λ i. printed-cut k p cs i ++ lastText (numberAfter k cs) (startAfter (first289 p) cs))
     ∙ ap (λ (l : List ℕ). printed k p cs ++ l) (sym (lastText-cut (numberAfter k cs) (startAfter (first289 p) cs)) ∙ ap (lastText (numberAfter k cs)) (startAfter-cut p cs) ∙ lastText-cut (numberAfter k cs) (startAfter p cs))
 
-rest-append : (k : ℕ) (p a b : List ℕ) → printed k p a ++ rest-of (numberAfter k a) (startAfter p a) b ≡ rest-of k p (a ++ b)
+rest-append : (k : ℕ) (p a b : List ℕ)
+    → printed k p a ++ rest-of (numberAfter k a) (startAfter p a) b ≡ rest-of k p (a ++ b)
 unfolding rest-of
 rest-append k p a b =
     sym (append-assoc (printed k p a) (printed (numberAfter k a) (startAfter p a) b) (lastText (numberAfter (numberAfter k a) b) (startAfter (startAfter p a) b)))

@@ -24,9 +24,11 @@ and-assoc false b c = refl
 pub noFeed-append : (a b : List ℕ) → noFeed (a ++ b) ≡ (noFeed a && noFeed b)
 unfolding noFeed
 noFeed-append [] b = refl
-noFeed-append (x ∷ a) b = ap (λ (t : Bool). not (eqb x 10) && t) (noFeed-append a b) ∙ sym (and-assoc (not (eqb x 10)) (noFeed a) (noFeed b))
+noFeed-append (x ∷ a) b =
+    ap (λ (t : Bool). not (eqb x 10) && t) (noFeed-append a b) ∙ sym (and-assoc (not (eqb x 10)) (noFeed a) (noFeed b))
 
-pub no-feed-more : (cs : List ℕ) (i : ℕ) → i < length cs → noFeed (take i cs) ≡ true → (getD cs i 0 ≡ 10 → ⊥) → noFeed (take (i + 1) cs) ≡ true
+pub no-feed-more : (cs : List ℕ) (i : ℕ) → i < length cs → noFeed (take i cs) ≡ true → (getD cs i 0 ≡ 10 → ⊥)
+    → noFeed (take (i + 1) cs) ≡ true
 unfolding noFeed
 no-feed-more cs i h e w = rw (add-one, take-suc cs i 0 h, noFeed-append, e, ne-eqb (getD cs i 0) 10 w)
 
@@ -73,9 +75,11 @@ start-none p (c ∷ cs) h = let n = not-feed c cs h in rw (n .0) (start-none (p 
 -- ---- characters that end one line
 
 module _ (cs : List ℕ) (h : noFeed cs ≡ true) (rest : List ℕ) where
-  pub printed-line : (k : ℕ) (p : List ℕ) → printed k p (cs ++ 10 ∷ rest) ≡ lineText k (p ++ cs) ++ printed (k + 1) [] rest
+  pub printed-line : (k : ℕ) (p : List ℕ)
+      → printed k p (cs ++ 10 ∷ rest) ≡ lineText k (p ++ cs) ++ printed (k + 1) [] rest
   unfolding printed
-  printed-line k p = printed-append k p cs (10 ∷ rest) ∙ rw (printed-none k p cs h, number-none k cs h, start-none p cs h)
+  printed-line k p =
+      printed-append k p cs (10 ∷ rest) ∙ rw (printed-none k p cs h, number-none k cs h, start-none p cs h)
 
   pub number-line : (k : ℕ) → numberAfter k (cs ++ 10 ∷ rest) ≡ numberAfter (k + 1) rest
   unfolding numberAfter
@@ -92,7 +96,8 @@ at-feed cs n h e = split-at cs n 0 h ∙ rw (e, add-one)
 -- ---- whole lines, one after the other
 
 abbrev pub WholeLines : ℕ → List ℕ → ℕ → ℕ → Type 0
-WholeLines k cs taken n = (taken ≤ length cs) × (startAfter [] (take taken cs) ≡ []) × (n ≡ numberAfter k (take taken cs))
+WholeLines k cs taken n =
+    (taken ≤ length cs) × (startAfter [] (take taken cs) ≡ []) × (n ≡ numberAfter k (take taken cs))
 
 module _ (k : ℕ) (cs : List ℕ) (taken n : ℕ) (w : WholeLines k cs taken n) where
   module _ (end : ℕ) (e : LineEnd (drop taken cs) end) (more : end < length (drop taken cs)) where
@@ -131,7 +136,8 @@ unfolding noFeed
 all-taken cs taken h = rw (drop-of-length-le cs {i = taken} h)
 
 -- the hex digits at the start of a list end before its first line feed
-pub hex-before : (cs : List ℕ) (n end : ℕ) → allHex (take n cs) ≡ true → n ≤ length cs → LineEnd cs end → end < length cs → n ≤ end
+pub hex-before : (cs : List ℕ) (n end : ℕ) → allHex (take n cs) ≡ true → n ≤ length cs → LineEnd cs end
+    → end < length cs → n ≤ end
 hex-before cs n end h l e more = byTest (leb n end) refl
   where
     byTest : (t : Bool) → leb n end ≡ t → n ≤ end
@@ -151,7 +157,8 @@ pub ended-early : (cs p : List ℕ) (end : ℕ) → p ≡ cs → LineEnd cs end 
 ended-early cs p end e l w = let long : length p ≡ length cs = ap length e in omega arith
 
 pub none-after : (cs p : List ℕ) (end : ℕ) → p ≡ cs → LineEnd cs end → end ≡ length p → noFeed cs ≡ true
-none-after cs p end e l w = rw (take-all end cs (let long : length p ≡ length cs = ap length e in omega arith)) at (l .1)
+none-after cs p end e l w =
+    rw (take-all end cs (let long : length p ≡ length cs = ap length e in omega arith)) at (l .1)
 
 -- a list with a line feed: the line that it ends, and the rest
 module _ (cs : List ℕ) (end : ℕ) (e : LineEnd cs end) (more : end < length cs) where
@@ -164,5 +171,6 @@ module _ (cs : List ℕ) (end : ℕ) (e : LineEnd cs end) (more : end < length c
   pub start-parts : (p : List ℕ) → startAfter p cs ≡ startAfter [] (drop (end + 1) cs)
   start-parts p = ap (startAfter p) parts ∙ start-line (take end cs) (e .1) (drop (end + 1) cs) p
 
-  pub printed-parts : (k : ℕ) (p : List ℕ) → printed k p cs ≡ lineText k (p ++ take end cs) ++ printed (k + 1) [] (drop (end + 1) cs)
+  pub printed-parts : (k : ℕ) (p : List ℕ)
+      → printed k p cs ≡ lineText k (p ++ take end cs) ++ printed (k + 1) [] (drop (end + 1) cs)
   printed-parts k p = ap (printed k p) parts ∙ printed-line (take end cs) (e .1) (drop (end + 1) cs) k p

@@ -30,7 +30,8 @@ module _ (cs bytes : List ℕ) (n : ℕ) (h : length cs ≤ 288) (e : length cs 
       even-line cs h e ∙ rw (no-byte cs (n * 2) (r .3) (omega arith) (r .5 (omega arith) (omega arith)))
 
 -- the run of a line is that of what the line is the start of
-pub run-of-line : (cs bytes : List ℕ) (n end : ℕ) → HexRun cs n bytes → n * 2 ≤ end → end ≤ length cs → HexRun (take end cs) n bytes
+pub run-of-line : (cs bytes : List ℕ) (n end : ℕ) → HexRun cs n bytes → n * 2 ≤ end → end ≤ length cs
+    → HexRun (take end cs) n bytes
 run-of-line cs bytes n end r h l =
     let long : length (take end cs) ≡ end = length-take-le end cs l in
     let same : take (n * 2) (take end cs) ≡ take (n * 2) cs = take-take (n * 2) end cs h in (

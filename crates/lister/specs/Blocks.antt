@@ -8,7 +8,8 @@ use Rattle.lister.specs.Stream.{listing}
 use Rattle.lister.specs.Pieces.{initialProgress, fed, finished}
 use Rattle.lister.specs.Cuts.{concat}
 
--- The parts that are handed out, one for each block and one at the end: after each call the first bytes of out, as many as are ready.
+-- The parts that are handed out, one for each block and one at the end: after each call the first bytes
+-- of out, as many as are ready.
 unfoldable pub handedOut : Progress → List ℕ → List ℕ → List (List ℕ) → List (List ℕ)
 handedOut from hold out [] =
     let last = finished from hold out in
@@ -23,8 +24,11 @@ AllAtMost n (b ∷ bs) = (length b ≤ n) × AllAtMost n bs
 
 -- Blocks of at most n characters, buffers that are large enough for them, and fewer than 2^64 - 1 characters in all.
 abbrev pub BlocksFit : ℕ → List ℕ → List ℕ → List (List ℕ) → Type 0
-BlocksFit n hold out bs = (289 ≤ length hold) × (64 ≤ length out) × (n * 64 ≤ length out) × AllAtMost n bs × (1 + length (concat bs) < 2 ^ 64)
+BlocksFit n hold out bs =
+    (289 ≤ length hold) × (64 ≤ length out) × (n * 64 ≤ length out) × AllAtMost n bs × (1 + length (concat bs) < 2 ^ 64)
 
 -- the parts handed out, joined, are the listing of the blocks joined
 abbrev pub AnyBlocks : Type 0
-AnyBlocks = (n : ℕ) (hold out : List ℕ) (bs : List (List ℕ)) → BlocksFit n hold out bs → concat (handedOut initialProgress hold out bs) ≡ listing (concat bs)
+AnyBlocks =
+    (n : ℕ) (hold out : List ℕ) (bs : List (List ℕ)) → BlocksFit n hold out bs
+    → concat (handedOut initialProgress hold out bs) ≡ listing (concat bs)

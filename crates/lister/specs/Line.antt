@@ -11,7 +11,8 @@ use Rattle.rows.specs.Rows.{outLine}
 use Rattle.lister.specs.declared.Line.{Line}
 use Rattle.lister.specs.declared.Line.the-variants.{Read, Refused, Unreadable}
 
--- The length is tested before the characters: more than 288 of them give 1. What is no hex, by its count or by one of its characters, gives 0. Bytes are then read as a packet.
+-- The length is tested before the characters: more than 288 of them give 1. What is no hex, by its count or by one of
+-- its characters, gives 0. Bytes are then read as a packet.
 unfoldable pub lineRead : List ℕ → Result Packet
 lineRead cs =
     refuse 1 (ltb 288 (length cs))

@@ -6,7 +6,8 @@ use mathlib.Core.List.{List}
 use lib.ListN.{length, take, getD}
 use Rattle.text.specs.Digits.{isHex, allHex, unhex}
 
--- The first n pairs of cs spell the first n of bytes, and the next pair spells none: it is the 145th, or there is none, or it has a character that is no digit.
+-- The first n pairs of cs spell the first n of bytes, and the next pair spells none: it is the 145th, or there is none,
+-- or it has a character that is no digit.
 abbrev pub HexRun : List ℕ → ℕ → List ℕ → Type 0
 HexRun cs n bytes =
     (n ≤ 144)

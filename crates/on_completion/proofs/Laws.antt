@@ -29,18 +29,22 @@ use Rattle.on_completion.specs.Translations.{isLive, onTranslationStatus
 use Rattle.on_completion.specs.Completions.{completedFor, completed}
 
 module _ (f : Function) (c : Completion) (load : List ℕ) where
-  -- what holds of the tables, whatever the tag is open for then and with the translations of a live request applied, holds after a completion
-  pub completed-keeps : (P : Cache → List TagRow → Pages → Type 0) → ((o : TagState) → P (f .cache) (setTag (f .tags) (c .tag) o) (f .pages))
+  -- what holds of the tables, whatever the tag is open for then and with the translations of a live request
+  -- applied, holds after a completion
+  pub completed-keeps : (P : Cache → List TagRow → Pages → Type 0)
+      → ((o : TagState) → P (f .cache) (setTag (f .tags) (c .tag) o) (f .pages))
       → ((q : PendingTranslation) (o : TagState) → tagState (f .tags) (c .tag) ≡ Translate q → isLive f q ≡ true → P (applied q load (f .cache)) (setTag (f .tags) (c .tag) o) (f .pages))
       → Does (λ d. P (d .state .cache) (d .state .tags) (d .state .pages)) (completed f c load)
   unfolding completed onTranslationData appliedIfLive onTranslationStatus onReadData onReadStatus
   completed-keeps P place fill = go (c .outcome) (tagState (f .tags) (c .tag)) refl
     where
-      go : (outcome : Outcome) (o : TagState) → tagState (f .tags) (c .tag) ≡ o → Does (λ d. P (d .state .cache) (d .state .tags) (d .state .pages)) (completedFor f c load outcome o)
+      go : (outcome : Outcome) (o : TagState) → tagState (f .tags) (c .tag) ≡ o
+          → Does (λ d. P (d .state .cache) (d .state .tags) (d .state .pages)) (completedFor f c load outcome o)
       go outcome Free e = search does
       go (Data dwords) (Translate q) e = part (classified q (f .rcb) (c .count) (c .lower) load)
         where
-          part : (p : Part) → Does (λ d. P (d .state .cache) (d .state .tags) (d .state .pages)) (onTranslationPart f (c .tag) q (c .count) load p)
+          part : (p : Part)
+              → Does (λ d. P (d .state .cache) (d .state .tags) (d .state .pages)) (onTranslationPart f (c .tag) q (c .count) load p)
           part Misfit = search does
           part OffBoundary = search (does, place)
           part First = search (does, place, fill)

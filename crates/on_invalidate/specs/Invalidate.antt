@@ -32,7 +32,8 @@ abbrev pub isOtherAgent : Agent → ℕ → Bool
 isOtherAgent Unknown from = false
 isOtherAgent (Known id) from = not (eqb id from)
 
--- overlapping entries are deleted, overlapping requests marked stale, overlapping translated reads made to delay the ITag; the ITag waits, and the sender is the agent
+-- overlapping entries are deleted, overlapping requests marked stale, overlapping translated reads made to delay the
+-- ITag; the ITag waits, and the sender is the agent
 abbrev pub invalidatedBy : Function → ℕ → InvalidateRequest → Function
 invalidatedBy f from i =
     let range = invalidatedRange (f .stu) i in

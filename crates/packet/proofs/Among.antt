@@ -55,7 +55,8 @@ every-one p (m ∷ l) n h e =
     byCases (eqb n m) (λ t. rw (eqb-true n m t) (both .0)) (λ t. every-one p l n (both .1) (rw t at e))
 
 -- the numbers of a list are among those of a longer one
-pub among-monotone : {A : Type 0} (l m : List ℕ) (s : Result A) → everyOne (λ n. isAmong n m) l ≡ true → Among l s → Among m s
+pub among-monotone : {A : Type 0} (l m : List ℕ) (s : Result A) → everyOne (λ n. isAmong n m) l ≡ true → Among l s
+    → Among m s
 among-monotone l m s h x = record { one = λ n e. every-one (λ k. isAmong k m) l n h (x .one n e) }
 
 -- ---- reading
@@ -88,7 +89,8 @@ pub record Sendable (p : Packet) (load : ℕ) : Type 0 where
   pub allows : allowed p ≡ true
 
 -- is refused with 17 if at all
-pub only-room : (l : List ℕ) (p : Packet) (load room : ℕ) → isAmong 17 l ≡ true → Sendable p load → Among l (writing p load room)
+pub only-room : (l : List ℕ) (p : Packet) (load room : ℕ) → isAmong 17 l ≡ true → Sendable p load
+    → Among l (writing p load room)
 unfolding writing
 only-room l p load room h s =
     let n = payloadOffset (formOf (p .body)) + load in
@@ -103,7 +105,8 @@ module _ (h : Head) (tc : h .tc ≡ 0) where
   first : h .tc < 8
   first = rw tc (lit≤ tt)
 
-  pub tr-sendable : (t : TranslationRequest) → t .dwords % 2 ≡ 0 → 1 ≤ t .dwords → t .dwords ≤ 32 → t .address % 4096 ≡ 0 → Sendable (record { head = h; body = Tr t }) 0
+  pub tr-sendable : (t : TranslationRequest) → t .dwords % 2 ≡ 0 → 1 ≤ t .dwords → t .dwords ≤ 32
+      → t .address % 4096 ≡ 0 → Sendable (record { head = h; body = Tr t }) 0
   unfolding bodyInRange allowedBody payloadLength
   tr-sendable t even some few page =
       record {
@@ -114,11 +117,13 @@ module _ (h : Head) (tc : h .tc ≡ 0) where
       }
 
   module _ (dwords address : ℕ) (translated : Bool) (some : 1 ≤ dwords) (few : dwords ≤ 32) (dword : address % 4 ≡ 0) where
-    pub read-sendable : (tag : Tag) → Sendable (record { head = h; body = Mem (record { access = Read tag; dwords = dwords; address = address; translated = translated }) }) 0
+    pub read-sendable : (tag : Tag)
+        → Sendable (record { head = h; body = Mem (record { access = Read tag; dwords = dwords; address = address; translated = translated }) }) 0
     unfolding bodyInRange allowedBody payloadLength
     read-sendable tag = record { tc = first; body = rw (lt-ltb dwords 1024 (omega arith), dword); fills = refl; allows = short dwords some few }
 
-    pub write-sendable : (load : ℕ) → load ≡ 4 * dwords → Sendable (record { head = h; body = Mem (record { access = Write; dwords = dwords; address = address; translated = translated }) }) load
+    pub write-sendable : (load : ℕ) → load ≡ 4 * dwords
+        → Sendable (record { head = h; body = Mem (record { access = Write; dwords = dwords; address = address; translated = translated }) }) load
     unfolding bodyInRange allowedBody payloadLength
     write-sendable load all =
         record {
@@ -132,6 +137,8 @@ module _ (h : Head) (tc : h .tc ≡ 0) where
   unfolding bodyInRange allowedBody payloadLength
   ic-sendable i cc = record { tc = first; body = lt-ltb (i .cc) 8 cc; fills = refl; allows = refl }
 
-  pub prq-sendable : (q : PageRequest) → q .page % 4096 ≡ 0 → q .index .0 < 512 → Sendable (record { head = h; body = Prq q }) 0
+  pub prq-sendable : (q : PageRequest) → q .page % 4096 ≡ 0 → q .index .0 < 512
+      → Sendable (record { head = h; body = Prq q }) 0
   unfolding bodyInRange allowedBody payloadLength
-  prq-sendable q page index = record { tc = first; body = rw (page, lt-ltb (q .index .0) 512 index); fills = refl; allows = rw tc }
+  prq-sendable q page index =
+      record { tc = first; body = rw (page, lt-ltb (q .index .0) 512 index); fills = refl; allows = rw tc }

@@ -13,12 +13,14 @@ use Rattle.packet.specs.Writing.{writing}
 
 module _ {A : Type 0} where
   -- what was demanded holds
-  pub check-passed : (t : Bool) (n : ℕ) (next : Result A) {a : A} → cond t next (refusal n) ≡ ok a → (t ≡ true) × (next ≡ ok a)
+  pub check-passed : (t : Bool) (n : ℕ) (next : Result A) {a : A} → cond t next (refusal n) ≡ ok a
+      → (t ≡ true) × (next ≡ ok a)
   check-passed true n next e = (refl, e)
   check-passed false n next e = impossible cc
 
   -- what is refused does not hold
-  pub refuse-passed : (t : Bool) (n : ℕ) (next : Result A) {a : A} → cond t (refusal n) next ≡ ok a → (t ≡ false) × (next ≡ ok a)
+  pub refuse-passed : (t : Bool) (n : ℕ) (next : Result A) {a : A} → cond t (refusal n) next ≡ ok a
+      → (t ≡ false) × (next ≡ ok a)
   refuse-passed false n next e = (refl, e)
   refuse-passed true n next e = impossible cc
 

@@ -34,7 +34,8 @@ byte0Of InvCpl = 0x32
 byte0Of PageReq = 0x30
 byte0Of PrgResp = 0x32
 
--- Bit 5 of byte 0 says how long the header is: 12 bytes where it is clear (a 32-bit address, and in completions), 16 where it is set.
+-- Bit 5 of byte 0 says how long the header is: 12 bytes where it is clear (a 32-bit address, and in
+-- completions), 16 where it is set.
 abbrev pub headerLength : Form → ℕ
 headerLength m = cond (eqb (byte0Of m / 0x20 % 2) 0) 12 16
 

@@ -25,7 +25,8 @@ abbrev pub dwordsAt : List ℕ → ℕ
 dwordsAt b = byte b 2 % 4 * 256 + byte b 3
 
 -- Byte 1 has TC in bits 6:4; byte 2 has TD and EP in bits 7:6 and AT in bits 3:2; bytes 4 and 5 are the
--- sender's ID. What stands from byte 12 on is 0 in a packet that ends before byte 16, and the body in one that ends before byte 24.
+-- sender's ID. What stands from byte 12 on is 0 in a packet that ends before byte 16, and the body in
+-- one that ends before byte 24.
 unfoldable pub decodeFrame : List ℕ → Frame
 decodeFrame b =
     record {

@@ -68,7 +68,8 @@ invIn f =
 abbrev pub icIn : Frame → Body
 icIn f = Ic (record { device = f .dword8 / 65536; cc = f .dword8 % 8; vector = f .dword12 })
 
--- PRQ: a, the number in bytes 8 to 15, has the page address with the PRG index, L, W and R in its low 12 bits, in this order
+-- PRQ: a, the number in bytes 8 to 15, has the page address with the PRG index, L, W and R in
+-- its low 12 bits, in this order
 abbrev pub prqIn : ℕ → Body
 prqIn a =
     Prq
@@ -147,8 +148,8 @@ abbrev pub allowedOutcome : Outcome → Bool
 allowedOutcome (Data w) = shortEnough w
 allowedOutcome (Status s) = not (eqb s 2)
 
--- Forbidden are: Length of a TR odd, 0 or above 32; Length of a MEM or a completion with data above 32; status 010; a body with no size; TC of
--- a PRQ or a PRS not 0.
+-- Forbidden are: Length of a TR odd, 0 or above 32; Length of a MEM or a completion with data above 32; status 010; a
+-- body with no size; TC of a PRQ or a PRS not 0.
 unfoldable pub allowedBody : ℕ → Body → Bool
 allowedBody tc (Tr t) = evenAndShort (t .dwords)
 allowedBody tc (Mem m) = shortEnough (m .dwords)

@@ -11,7 +11,8 @@ use Rattle.packet.specs.declared.Form.the-variants.{Mrd32, Mrd64, Mwr32,
 use Rattle.packet.specs.Frames.{byte, decodeFrame}
 use Rattle.packet.specs.Forms.{choose}
 
--- TC in byte 1; TD and EP in byte 2, with AT and Length where the kind has them; bytes 0, 4, 5 and 7 whole; byte 6 as the kind has it
+-- TC in byte 1; TD and EP in byte 2, with AT and Length where the kind has them; bytes 0, 4, 5 and 7
+-- whole; byte 6 as the kind has it
 abbrev pub frontMask : ℕ → ℕ → ℕ → List ℕ
 frontMask byte2 byte3 byte6 = 0xFF ∷ 0x70 ∷ byte2 ∷ byte3 ∷ 0xFF ∷ 0xFF ∷ byte6 ∷ 0xFF ∷ []
 

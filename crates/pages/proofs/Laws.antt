@@ -25,12 +25,14 @@ pub none-long : length closedAll ≡ 32
 none-long = refl
 
 -- while a credit is free fewer are in use than the allocation,
-pub free-lt : (groups : List Group) (allocation : ℕ) → isSpent groups allocation ≡ false → usedCredits groups < allocation
+pub free-lt : (groups : List Group) (allocation : ℕ) → isSpent groups allocation ≡ false
+    → usedCredits groups < allocation
 unfolding isSpent
 free-lt groups allocation = leb-false allocation (usedCredits groups)
 
 -- and where none is, as many at least
-pub spent-le : (groups : List Group) (allocation : ℕ) → isSpent groups allocation ≡ true → allocation ≤ usedCredits groups
+pub spent-le : (groups : List Group) (allocation : ℕ) → isSpent groups allocation ≡ true
+    → allocation ≤ usedCredits groups
 unfolding isSpent
 spent-le groups allocation = leb-true allocation (usedCredits groups)
 
@@ -52,7 +54,8 @@ module _ (groups : List Group) (all : length groups ≡ 32) (k : PrgIndex) where
   unfolding usedCredits closed
   close-le = either-case (λ (l : List Group). usedCredits l ≤ usedCredits groups) (isIndex k) _ groups (λ t. omega (arith, set-used t)) (λ t. le-refl (usedCredits groups))
     where
-      set-used : isIndex k ≡ true → usedCredits (set groups (k .0) idle) + groupAt groups k .requests ≡ usedCredits groups
+      set-used : isIndex k ≡ true
+          → usedCredits (set groups (k .0) idle) + groupAt groups k .requests ≡ usedCredits groups
       set-used t = omega (arith, sum-set requestsOf groups (k .0) idle idle (rw all (ltb-true (k .0) 32 t)))
 
   -- ---- a request joins a group
@@ -106,7 +109,8 @@ module _ (groups : List Group) (all : length groups ≡ 32) (k : PrgIndex) (own 
       added-used = rw own (omega (arith, close-used, free-lt groups allocation some, sum-set requestsOf groups (k .0) (oneMoreRequest (groupAt groups k) last) idle within))
 
 -- so that never more are in use than the allocation
-pub added-fits : (groups : List Group) (all : length groups ≡ 32) (k : PrgIndex) (last : Bool) (allocation : ℕ) → allocation < 2 ^ 16 → isSpent groups allocation ≡ false → usedCredits (requestAdded groups k last) ≤ allocation
+pub added-fits : (groups : List Group) (all : length groups ≡ 32) (k : PrgIndex) (last : Bool) (allocation : ℕ)
+    → allocation < 2 ^ 16 → isSpent groups allocation ≡ false → usedCredits (requestAdded groups k last) ≤ allocation
 unfolding requestAdded
 added-fits groups all k last allocation small some =
     byCases (isIndex k)

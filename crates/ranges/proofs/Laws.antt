@@ -70,7 +70,8 @@ trailing-ones (suc k) (suc n) q h =
 pub trailing-le : (k y : ℕ) → trailing k y ≤ k
 unfolding trailing
 trailing-le zero y = omega arith
-trailing-le (suc k) y = byCases (eqb (y % 2) 1) (λ p. rw p (omega (arith, trailing-le k (y / 2)))) (λ p. rw p (omega arith))
+trailing-le (suc k) y =
+    byCases (eqb (y % 2) 1) (λ p. rw p (omega (arith, trailing-le k (y / 2)))) (λ p. rw p (omega arith))
 
 -- a number ends in k ones where its lowest k bits are ones
 pub all-ones : (k y : ℕ) → trailing k y ≡ k → y % 2 ^ k ≡ 2 ^ k - 1
@@ -163,7 +164,8 @@ module _ (a e u : ℕ) (he : e ≤ 64) (hu : u ≤ 64) where
       larger (no n) = rw (max-eq-left {n = e} {m = u} (omega arith)) he
 
 -- a region of a larger exponent holds that of a smaller one
-pub region-holds : (a e f : ℕ) → e ≤ f → (a / 2 ^ f * 2 ^ f ≤ a / 2 ^ e * 2 ^ e) × (a / 2 ^ e * 2 ^ e + (2 ^ e - 1) ≤ a / 2 ^ f * 2 ^ f + (2 ^ f - 1))
+pub region-holds : (a e f : ℕ) → e ≤ f
+    → (a / 2 ^ f * 2 ^ f ≤ a / 2 ^ e * 2 ^ e) × (a / 2 ^ e * 2 ^ e + (2 ^ e - 1) ≤ a / 2 ^ f * 2 ^ f + (2 ^ f - 1))
 region-holds a e f h =
     let d = f - e in
     let y = a / 2 ^ e in
@@ -188,7 +190,8 @@ aligned y f u h =
     (rw first (mul-mod-left (y * 2 ^ d) (2 ^ u)), rw (one, last) (mul-mod-left (y * 2 ^ d + 2 ^ d) (2 ^ u)))
 
 -- what begins and ends at a unit and holds a region holds the whole units that the region touches
-smallest : (a e u i j : ℕ) → i * 2 ^ u ≤ a / 2 ^ e * 2 ^ e → a / 2 ^ e * 2 ^ e + (2 ^ e - 1) < j * 2 ^ u → (i * 2 ^ u ≤ a / 2 ^ u * 2 ^ u) × (a / 2 ^ u * 2 ^ u + (2 ^ u - 1) < j * 2 ^ u)
+smallest : (a e u i j : ℕ) → i * 2 ^ u ≤ a / 2 ^ e * 2 ^ e → a / 2 ^ e * 2 ^ e + (2 ^ e - 1) < j * 2 ^ u
+    → (i * 2 ^ u ≤ a / 2 ^ u * 2 ^ u) × (a / 2 ^ u * 2 ^ u + (2 ^ u - 1) < j * 2 ^ u)
 smallest a e u i j l r =
     let below : i * 2 ^ u ≤ a = le-trans l (div-mul-le-self a (2 ^ e)) in
     let above : a < j * 2 ^ u = omega (arith, lt-div-mul-add {a = a} {b = 2 ^ e} (pow-pos e)) in
@@ -208,7 +211,8 @@ module _ (a e u : ℕ) (he : e ≤ 64) (hu : u ≤ 64) where
   rounded-aligned = rw (rounded-is a e u he hu) (aligned (a / 2 ^ max e u) (max e u) u (le-max-right e u))
 
   -- and is the smallest such
-  pub rounded-smallest : (i j : ℕ) → i * 2 ^ u ≤ regionIn a e .first → regionIn a e .last < j * 2 ^ u → (i * 2 ^ u ≤ roundedOf a e u .first) × (roundedOf a e u .last < j * 2 ^ u)
+  pub rounded-smallest : (i j : ℕ) → i * 2 ^ u ≤ regionIn a e .first → regionIn a e .last < j * 2 ^ u
+      → (i * 2 ^ u ≤ roundedOf a e u .first) × (roundedOf a e u .last < j * 2 ^ u)
   rounded-smallest i j l r = rw (rounded-is a e u he hu) (go (decLe e u))
     where
       go : Dec (e ≤ u) → (i * 2 ^ u ≤ regionIn a (max e u) .first) × (regionIn a (max e u) .last < j * 2 ^ u)
@@ -217,16 +221,20 @@ module _ (a e u : ℕ) (he : e ≤ 64) (hu : u ≤ 64) where
 
 -- ---- two ranges overlap exactly where they have a byte in common
 
-pub shared-overlaps : (p q : Range) (x : ℕ) → p .first ≤ x → x ≤ p .last → q .first ≤ x → x ≤ q .last → overlaps p q ≡ true
-shared-overlaps p q x a b c d = rw (le-leb (p .first) (q .last) (le-trans a d), le-leb (q .first) (p .last) (le-trans c b))
+pub shared-overlaps : (p q : Range) (x : ℕ) → p .first ≤ x → x ≤ p .last → q .first ≤ x → x ≤ q .last
+    → overlaps p q ≡ true
+shared-overlaps p q x a b c d =
+    rw (le-leb (p .first) (q .last) (le-trans a d), le-leb (q .first) (p .last) (le-trans c b))
 
-pub overlaps-shared : (p q : Range) → p .first ≤ p .last → q .first ≤ q .last → overlaps p q ≡ true → (x : ℕ) × (p .first ≤ x) × (x ≤ p .last) × (q .first ≤ x) × (x ≤ q .last)
+pub overlaps-shared : (p q : Range) → p .first ≤ p .last → q .first ≤ q .last → overlaps p q ≡ true
+    → (x : ℕ) × (p .first ≤ x) × (x ≤ p .last) × (q .first ≤ x) × (x ≤ q .last)
 overlaps-shared p q a b e =
     let l = and-both (leb (p .first) (q .last)) (leb (q .first) (p .last)) e in
     let h = leb-true (p .first) (q .last) (l .0) in
     let k = leb-true (q .first) (p .last) (l .1) in
     go (decLe (p .first) (q .first)) h k
   where
-    go : Dec (p .first ≤ q .first) → p .first ≤ q .last → q .first ≤ p .last → (x : ℕ) × (p .first ≤ x) × (x ≤ p .last) × (q .first ≤ x) × (x ≤ q .last)
+    go : Dec (p .first ≤ q .first) → p .first ≤ q .last → q .first ≤ p .last
+        → (x : ℕ) × (p .first ≤ x) × (x ≤ p .last) × (q .first ≤ x) × (x ≤ q .last)
     go (yes l) h k = (q .first, l, k, le-refl _, b)
     go (no n) h k = (p .first, le-refl _, a, omega arith, h)

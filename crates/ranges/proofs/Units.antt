@@ -37,16 +37,19 @@ unfolding relocated regionOf
 relocated-low base a e k h g = offset-low (min e 64) (base / 2 ^ min e 64) a k (le-min h g)
 
 -- the units of a request are few
-pub units-fit : (further unit : ℕ) → unit ≤ 0x800_0000_0000 → (unitCount further * unit ≤ 0x8000_0000_0000) × (unit ≤ unitCount further * unit)
+pub units-fit : (further unit : ℕ) → unit ≤ 0x800_0000_0000
+    → (unitCount further * unit ≤ 0x8000_0000_0000) × (unit ≤ unitCount further * unit)
 units-fit further unit h =
     let few : unitCount further ≤ 16 = omega arith in
     let one : 1 ≤ unitCount further = omega arith in
     (omega (arith, mul-le-mul-right unit few), omega (arith, mul-le-mul-right unit one))
 
 -- a reach ends no sooner than it begins, and inside the address space
-pub rangeFrom-ends : (first rest : ℕ) → first < 2 ^ 64 → (first ≤ rangeFrom first rest .last) × (rangeFrom first rest .last < 2 ^ 64)
+pub rangeFrom-ends : (first rest : ℕ) → first < 2 ^ 64
+    → (first ≤ rangeFrom first rest .last) × (rangeFrom first rest .last < 2 ^ 64)
 unfolding rangeFrom
-rangeFrom-ends first rest h = (le-min (omega arith) (omega arith), omega (arith, min-le-right (first + rest) (2 ^ 64 - 1)))
+rangeFrom-ends first rest h =
+    (le-min (omega arith) (omega arith), omega (arith, min-le-right (first + rest) (2 ^ 64 - 1)))
 
 -- region n begins at or before a byte exactly where it is no later than the byte's own region
 pub region-leb : (n e x : ℕ) → leb (n * 2 ^ e) x ≡ leb n (x / 2 ^ e)
@@ -56,7 +59,8 @@ region-leb n e x =
 
 -- a later byte lies in no earlier region
 pub region-monotone : (a b e : ℕ) → a ≤ b → a / 2 ^ e ≤ b / 2 ^ e
-region-monotone a b e h = le-div-iff-mul-le {k = 2 ^ e} {x = a / 2 ^ e} {y = b} (pow-pos e) .1 (le-trans (div-mul-le-self a (2 ^ e)) h)
+region-monotone a b e h =
+    le-div-iff-mul-le {k = 2 ^ e} {x = a / 2 ^ e} {y = b} (pow-pos e) .1 (le-trans (div-mul-le-self a (2 ^ e)) h)
 
 -- where the units of a request lie: none is far from the first
 pub offset-fits : (j unit : ℕ) → j ≤ 15 → unit ≤ 0x800_0000_0000 → j * unit ≤ 0x8000_0000_0000
@@ -91,7 +95,8 @@ step-le : (j n U : ℕ) → j < n → j * U + U ≤ n * U
 step-le j n U h = let most : (j + 1) * U ≤ n * U = mul-le-mul-right {m = j + 1} {n = n} U (omega arith) in rw (add-mul j 1 U, one-mul U) at most
 
 -- and each of its units that begins in it lies in it
-pub unitsFrom-holds : (a further stu j : ℕ) → j < unitCount further → regionOf a (unitExponent stu) .first + j * unitBytes stu ≤ unitsFrom a further stu .last
+pub unitsFrom-holds : (a further stu j : ℕ) → j < unitCount further
+    → regionOf a (unitExponent stu) .first + j * unitBytes stu ≤ unitsFrom a further stu .last
     → isWithin (regionOf (regionOf a (unitExponent stu) .first + j * unitBytes stu) (unitExponent stu)) (unitsFrom a further stu) ≡ true
 unfolding regionOf unitsFrom rangeFrom
 unitsFrom-holds a further stu j among inside =

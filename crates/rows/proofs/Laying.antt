@@ -28,14 +28,16 @@ lay-lay at s t l h =
     ∙ ap (λ (x : List ℕ). take at l ++ s ++ t ++ x) rest
     ∙ ap (λ (x : List ℕ). x ++ drop (at + length (s ++ t)) l) (append-assoc (take at l) s t)
 
-pub then : (at : ℕ) (s t l : List ℕ) (n : ℕ) (m : List ℕ) (e : ℕ) (r : List ℕ) → at ≤ length l → Laid at s l n m → Laid n t m e r → Laid at (s ++ t) l e r
+pub then : (at : ℕ) (s t l : List ℕ) (n : ℕ) (m : List ℕ) (e : ℕ) (r : List ℕ) → at ≤ length l → Laid at s l n m
+    → Laid n t m e r → Laid at (s ++ t) l e r
 then at s t l n m e r h p q = (
   q .0 ∙ ap (λ (k : ℕ). k + length t) (p .0) ∙ add-assoc at (length s) (length t) ∙ ap (λ (k : ℕ). at + k) (sym (length-append s t)),
   q .1 ∙ (λ k. lay (p .0 k) t (p .1 k)) ∙ lay-lay at s t l h,
 )
 
 -- a byte between two texts
-pub then-byte : (at : ℕ) (s : List ℕ) (b : ℕ) (t l : List ℕ) (n : ℕ) (m : List ℕ) (o : ℕ) (u : List ℕ) (e : ℕ) (r : List ℕ) → at ≤ length l
+pub then-byte : (at : ℕ) (s : List ℕ) (b : ℕ) (t l : List ℕ) (n : ℕ) (m : List ℕ) (o : ℕ) (u : List ℕ) (e : ℕ) (r : List ℕ)
+    → at ≤ length l
     → Laid at s l n m → Laid n (b ∷ []) m o u → Laid o t u e r → Laid at (s ++ b ∷ t) l e r
 then-byte at s b t l n m o u e r h p q w =
     rw (← append-snoc s b t) (then at (s ++ b ∷ []) t l o u e r h (then at s (b ∷ []) l n m o u h p q) w)
@@ -44,11 +46,13 @@ pub lay-byte : (at b : ℕ) (l : List ℕ) → at < length l → set l at b ≡ 
 lay-byte at b l h = set-split l at b h ∙ rw (add-one, append-snoc)
 
 -- a turn of a copy, and its end
-pub copied : (d : List ℕ) (at : ℕ) (s out : List ℕ) (i : ℕ) → at + length s ≤ length d → i < length s → out ≡ paste d at s i
+pub copied : (d : List ℕ) (at : ℕ) (s out : List ℕ) (i : ℕ) → at + length s ≤ length d → i < length s
+    → out ≡ paste d at s i
     → set out (at + i) (getD s i 0) ≡ paste d at s (i + 1)
 copied d at s out i room h e = rw (add-one, e) (paste-suc d at s i 0 (omega arith) h)
 
-pub all-copied : (d : List ℕ) (at : ℕ) (s out : List ℕ) (i : ℕ) → i ≤ length s → length s ≤ i → out ≡ paste d at s i → Laid at s d (at + i) out
+pub all-copied : (d : List ℕ) (at : ℕ) (s out : List ℕ) (i : ℕ) → i ≤ length s → length s ≤ i → out ≡ paste d at s i
+    → Laid at s d (at + i) out
 all-copied d at s out i h g e =
     let n : i ≡ length s = omega arith in
     (rw n, e ∙ rw (n, take-length))
@@ -57,8 +61,10 @@ pub at-start : (s l : List ℕ) (n : ℕ) (m : List ℕ) → Laid 0 s l n m → 
 at-start s l n m p = (λ k. (p .0 k, p .1 k)) ∙ rw zero-add
 
 -- a whole line: number, tab, answer, line feed
-pub row : (k : ℕ) (a : Result Packet) (out : List ℕ) (n : ℕ) (l : List ℕ) (b : ℕ) (m : List ℕ) (c : ℕ) (u : List ℕ) (e : ℕ) (v : List ℕ) → 64 ≤ length out
-    → Laid 0 (decimal k) out n l → Laid n (9 ∷ []) l b m → Laid b (answerText a) m c u → Laid c (10 ∷ []) u e v → (e, v) ≡ rowIn (outLine k a) out
+pub row : (k : ℕ) (a : Result Packet) (out : List ℕ) (n : ℕ) (l : List ℕ) (b : ℕ) (m : List ℕ) (c : ℕ) (u : List ℕ) (e : ℕ) (v : List ℕ)
+    → 64 ≤ length out
+    → Laid 0 (decimal k) out n l → Laid n (9 ∷ []) l b m → Laid b (answerText a) m c u → Laid c (10 ∷ []) u e v
+    → (e, v) ≡ rowIn (outLine k a) out
 unfolding rowIn outLine
 row k a out n l b m c u e v room p q r s =
     let front = then-byte 0 (decimal k) 9 (answerText a) out n l b m c u zero-le p q r in
@@ -71,7 +77,8 @@ nothing-laid at l = (sym (add-zero at), sym (rw (append-nil, add-zero) (take-app
 pub laid-start : (s l : List ℕ) (n : ℕ) (m : List ℕ) → Laid 0 s l n m → take n m ≡ s
 laid-start s l n m p = rw (p .1) (take-at s (drop (0 + length s) l) n (sym (p .0 ∙ zero-add (length s))))
 
-pub laid-after : (at : ℕ) (s l : List ℕ) (n : ℕ) (m : List ℕ) → at ≤ length l → Laid at s l n m → Laid 0 (take at l ++ s) l n m
+pub laid-after : (at : ℕ) (s l : List ℕ) (n : ℕ) (m : List ℕ) → at ≤ length l → Laid at s l n m
+    → Laid 0 (take at l ++ s) l n m
 laid-after at s l n m h p =
     let e : length (take at l ++ s) ≡ at + length s = length-append (take at l) s ∙ ap (λ (k : ℕ). k + length s) (length-take-le at l h) in
     (rw (zero-add, e) (p .0), rw (zero-add, e) (p .1))
@@ -90,7 +97,8 @@ row-after at s out n l room e =
           ∙ ap (λ (x : List ℕ). take at out ++ s ++ x) (drop-drop (length s) at out),
     )
 
-pub laid-length : (at : ℕ) (s l : List ℕ) (n : ℕ) (m : List ℕ) → at + length s ≤ length l → Laid at s l n m → length m ≡ length l
+pub laid-length : (at : ℕ) (s l : List ℕ) (n : ℕ) (m : List ℕ) → at + length s ≤ length l → Laid at s l n m
+    → length m ≡ length l
 laid-length at s l n m h p =
     let e : length (take at l) ≡ at = length-take-le at l (omega arith) in
     rw (p .1, length-append, length-append, e, length-drop) (omega arith)
@@ -101,7 +109,8 @@ within : (s out o : List ℕ) → o ≡ s ++ drop (length s) out → length o �
 within s out o e l = let f = ap length e ∙ length-append s (drop (length s) out) in omega arith
 
 -- a text that stands at the start of a buffer is no longer than the buffer
-pub start-within : (s out : List ℕ) (n : ℕ) (o : List ℕ) → (n, o) ≡ atStart s out → length o ≡ length out → n ≤ length out
+pub start-within : (s out : List ℕ) (n : ℕ) (o : List ℕ) → (n, o) ≡ atStart s out → length o ≡ length out
+    → n ≤ length out
 start-within s out n o e l = rw (ap (λ (x : ℕ × List ℕ). x .0) e) (within s out o (ap (λ (x : ℕ × List ℕ). x .1) e) l)
 
 -- and so is a row

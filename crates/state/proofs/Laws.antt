@@ -16,14 +16,17 @@ use Rattle.state.specs.Answers.{Unrefused, Success, commit, sendsNothing
 use Rattle.state.specs.Switches.{resetting}
 
 -- resetting to ID 0, STU 0, RCB 64 leaves a new Function, whatever was before
-pub reset-is-new : (f : Function) (out : List ℕ) → commit f out (resetting (record { id = 0; stu = 0; rcb = 64 })) .state ≡ fresh 0 0 (rcbOf 64)
+pub reset-is-new : (f : Function) (out : List ℕ)
+    → commit f out (resetting (record { id = 0; stu = 0; rcb = 64 })) .state ≡ fresh 0 0 (rcbOf 64)
 unfolding resetting
 reset-is-new f out = refl
 
 -- what is sent is refused only for want of room
-pub sends-numbers : (l : List ℕ) (f : Function) (w : Unrefused) (p : Packet) (load out : List ℕ) → isAmong 17 l ≡ true → Sendable p (length load) → Among l (sends f w p load out)
+pub sends-numbers : (l : List ℕ) (f : Function) (w : Unrefused) (p : Packet) (load out : List ℕ) → isAmong 17 l ≡ true
+    → Sendable p (length load) → Among l (sends f w p load out)
 unfolding sends
-sends-numbers l f w p load out h s = go (writing p (length load) (length out)) (only-room l p (length load) (length out) h s)
+sends-numbers l f w p load out h s =
+    go (writing p (length load) (length out)) (only-room l p (length load) (length out) h s)
   where
     go : (s : Result ℕ) → Among l s → Among l (sendsWritten f w (bytesOf p load) s)
     go (ok n) h = among-ok l (record { state = f; answer = w; sent = n; bytes = bytesOf p load })
@@ -34,18 +37,21 @@ pub record Does (Q : Success → Type 0) (s : Result Success) : Type 0 where
   pub success : (d : Success) → s ≡ ok d → Q d
 
 module _ (Q : Success → Type 0) where
-  pub does-nothing : (g : Function) (w : Unrefused) → Q (record { state = g; answer = w; sent = 0; bytes = [] }) → Does Q (sendsNothing g w)
+  pub does-nothing : (g : Function) (w : Unrefused) → Q (record { state = g; answer = w; sent = 0; bytes = [] })
+      → Does Q (sendsNothing g w)
   does-nothing g w h = record { success = λ d e. let same : record { state = g; answer = w; sent = 0; bytes = [] } ≡ d = cc in rw same at h }
 
   pub does-refusal : (n : ℕ) → Does Q (refusal n)
   does-refusal n = record { success = λ d e. impossible cc }
 
-  pub does-case : (t : Bool) (a b : Result Success) → (t ≡ true → Does Q a) → (t ≡ false → Does Q b) → Does Q (cond t a b)
+  pub does-case : (t : Bool) (a b : Result Success) → (t ≡ true → Does Q a) → (t ≡ false → Does Q b)
+      → Does Q (cond t a b)
   does-case t a b = either-case (Does Q) t a b
 
   -- a packet that goes out is one that could be written
   pub does-write : (g : Function) (w : Unrefused) (p : Packet) (load out : List ℕ)
-      → ((n : ℕ) → writing p (length load) (length out) ≡ ok n → Q (record { state = g; answer = w; sent = n; bytes = bytesOf p load })) → Does Q (sends g w p load out)
+      → ((n : ℕ) → writing p (length load) (length out) ≡ ok n → Q (record { state = g; answer = w; sent = n; bytes = bytesOf p load }))
+      → Does Q (sends g w p load out)
   unfolding sends
   does-write g w p load out h = go (writing p (length load) (length out)) refl
     where
@@ -53,12 +59,15 @@ module _ (Q : Success → Type 0) where
       go (ok n) e = record { success = λ d k. let same : record { state = g; answer = w; sent = n; bytes = bytesOf p load } ≡ d = cc in rw same at (h n e) }
       go (refusal n) e = does-refusal n
 
-  pub does-send : (g : Function) (w : Unrefused) (p : Packet) (load out : List ℕ) → ((n : ℕ) → Q (record { state = g; answer = w; sent = n; bytes = bytesOf p load })) → Does Q (sends g w p load out)
+  pub does-send : (g : Function) (w : Unrefused) (p : Packet) (load out : List ℕ)
+      → ((n : ℕ) → Q (record { state = g; answer = w; sent = n; bytes = bytesOf p load }))
+      → Does Q (sends g w p load out)
   does-send g w p load out h = does-write g w p load out (λ n e. h n)
 
 pub ruleset does = (does-nothing, does-refusal, does-case, does-send)
 
 -- what holds of the state before a call, and of the one that it leaves, holds after it
-pub commit-in : (Q : Function → Type 0) (f : Function) (out : List ℕ) (s : Result Success) → Q f → Does (λ d. Q (d .state)) s → Q (commit f out s .state)
+pub commit-in : (Q : Function → Type 0) (f : Function) (out : List ℕ) (s : Result Success) → Q f
+    → Does (λ d. Q (d .state)) s → Q (commit f out s .state)
 commit-in Q f out (ok d) h k = k .success d refl
 commit-in Q f out (refusal n) h k = h

@@ -40,7 +40,8 @@ answerResult PayloadLast = ok payloadLast
 answerResult ReadFailed = ok readFailed
 answerResult (Refused r) = refusal (numberOf r)
 
--- What a call does that is not refused: the state after it, its answer, and the packet that it sends, with its length; no bytes where it sends none.
+-- What a call does that is not refused: the state after it, its answer, and the packet that it sends, with its length;
+-- no bytes where it sends none.
 pub record Success : Type 0 where
   pub state : Function
   pub answer : Unrefused
@@ -54,7 +55,8 @@ pub record Observed : Type 0 where
   pub sent : ℕ
   pub buffer : List ℕ
 
--- Refused, a call leaves state and buffer as they were. Else its effect is committed: the state is the new one, and the buffer begins with the bytes sent and goes on as it was.
+-- Refused, a call leaves state and buffer as they were. Else its effect is committed: the state is the new one, and the
+-- buffer begins with the bytes sent and goes on as it was.
 abbrev pub commit : Function → List ℕ → Result Success → Observed
 commit f out (ok d) = record { state = d .state; answer = ok (d .answer); sent = d .sent; buffer = d .bytes ++ drop (length (d .bytes)) out }
 commit f out (refusal n) = record { state = f; answer = refusal n; sent = 0; buffer = out }

@@ -35,7 +35,8 @@ isAllocation allocation = leb 1 allocation && leb allocation 512
 
 -- switching on: 15 when stopped; 12 when on, and for an allocation outside 1 to 512
 unfoldable pub switchingOn : Function → ℕ → Interface → Result Success
-switchingOn f allocation Off = check 12 (isAllocation allocation) (sendsNothing (withPages f (switchedOn allocation)) done)
+switchingOn f allocation Off =
+    check 12 (isAllocation allocation) (sendsNothing (withPages f (switchedOn allocation)) done)
 switchingOn f allocation On = refusal 12
 switchingOn f allocation Stopped = refusal 15
 

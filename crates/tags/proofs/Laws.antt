@@ -50,7 +50,8 @@ in-none i = none-set (bitIndex i)
 -- what joins a vector is in it beside what was
 pub in-withItag : (v : ℕ) (i j : ITag) → isIn (withItag v i) j ≡ (isIn v j || eqb (bitIndex i) (bitIndex j))
 unfolding withItag isIn
-in-withItag v i j = in-either v (2 ^ bitIndex i) j ∙ ap (λ (t : Bool). isIn v j || t) (power-set (bitIndex i) (bitIndex j))
+in-withItag v i j =
+    in-either v (2 ^ bitIndex i) j ∙ ap (λ (t : Bool). isIn v j || t) (power-set (bitIndex i) (bitIndex j))
 
 -- the bit of an ITag stands for it,
 pub in-bitIndex : (v : ℕ) (i : ITag) → isIn v (record { 0 = bitIndex i }) ≡ isIn v i
@@ -72,13 +73,15 @@ without-le v w = omega arith
 abbrev rowAt : List TagRow → ℕ → TagRow
 rowAt tags k = getD tags k (tagRow Free)
 
-delayed-by : (i : ITag) (tags : List TagRow) (k : ℕ) → isIn (delayedByRow (rowAt tags k)) i ≡ true → isIn (delayedItags tags) i ≡ true
+delayed-by : (i : ITag) (tags : List TagRow) (k : ℕ) → isIn (delayedByRow (rowAt tags k)) i ≡ true
+    → isIn (delayedItags tags) i ≡ true
 unfolding delayedItags foldMap
 delayed-by i [] k e = absurd (never-both _ e (in-none i))
 delayed-by i (p ∷ tags) zero e = rw (in-either (delayedByRow p) (foldMap bitOr delayedByRow tags) i, e)
 delayed-by i (p ∷ tags) (suc k) e = rw (in-either (delayedByRow p) (foldMap bitOr delayedByRow tags) i, delayed-by i tags k e) (or-true (isIn (delayedByRow p) i))
 
-delayed-at : (i : ITag) (tags : List TagRow) → isIn (delayedItags tags) i ≡ true → (k : ℕ) × (isIn (delayedByRow (rowAt tags k)) i ≡ true)
+delayed-at : (i : ITag) (tags : List TagRow) → isIn (delayedItags tags) i ≡ true
+    → (k : ℕ) × (isIn (delayedByRow (rowAt tags k)) i ≡ true)
 unfolding delayedItags foldMap
 delayed-at i [] e = absurd (never-both _ e (in-none i))
 delayed-at i (p ∷ tags) e =
@@ -97,11 +100,14 @@ not-read : (r : PendingRead) → Free ≡ Read r → ⊥
 not-read r e = impossible cc
 
 -- the delayed ITags are those that some open read delays
-pub delayed-exactly : (tags : List TagRow) (i : ITag) → length tags ≡ 32 → (isIn (delayedItags tags) i ≡ true) ↔ Delaying tags i
+pub delayed-exactly : (tags : List TagRow) (i : ITag) → length tags ≡ 32
+    → (isIn (delayedItags tags) i ≡ true) ↔ Delaying tags i
 unfolding tagState
-delayed-exactly tags i all = (λ e. let n = delayed-at i tags e in one (n .0) (n .1) (rowAt tags (n .0) .state) refl, back)
+delayed-exactly tags i all =
+    (λ e. let n = delayed-at i tags e in one (n .0) (n .1) (rowAt tags (n .0) .state) refl, back)
   where
-    one : (k : ℕ) → isIn (delayedByRow (rowAt tags k)) i ≡ true → (o : TagState) → rowAt tags k .state ≡ o → Delaying tags i
+    one : (k : ℕ) → isIn (delayedByRow (rowAt tags k)) i ≡ true → (o : TagState) → rowAt tags k .state ≡ o
+        → Delaying tags i
     one k e Free q = absurd (never-both _ (rw q at e) (in-none i))
     one k e (Translate t) q = absurd (never-both _ (rw q at e) (in-none i))
     one k e (Read r) q =
@@ -137,7 +143,8 @@ module _ (tags : List TagRow) (t : Tag) (o : TagState) where
   -- no other tag changes,
   pub setTag-other : (u : Tag) → (u .0 ≡ t .0 → ⊥) → tagState (setTag tags t o) u ≡ tagState tags u
   unfolding tagState setTag
-  setTag-other u n = byCases (isTag t) (λ e. rw (e, getD-set-other tags (t .0) (u .0) (tagRow o) (tagRow Free) n)) (λ e. rw e)
+  setTag-other u n =
+      byCases (isTag t) (λ e. rw (e, getD-set-other tags (t .0) (u .0) (tagRow o) (tagRow Free) n)) (λ e. rw e)
 
   -- and its own is open for just that
   pub setTag-own : length tags ≡ 32 → isTag t ≡ true → tagState (setTag tags t o) t ≡ o
@@ -145,7 +152,8 @@ module _ (tags : List TagRow) (t : Tag) (o : TagState) where
   setTag-own all e = rw (e, getD-set-same tags (t .0) (tagRow o) (tagRow Free) (rw all (ltb-true (t .0) 32 e)))
 
 -- a freed tag delays nothing, and the others delay what they did
-pub freed-exactly : (tags : List TagRow) (t : Tag) (i : ITag) → length tags ≡ 32 → Delaying (setTag tags t Free) i ↔ ((h : Delaying tags i) × (h .tag .0 ≡ t .0 → ⊥))
+pub freed-exactly : (tags : List TagRow) (t : Tag) (i : ITag) → length tags ≡ 32
+    → Delaying (setTag tags t Free) i ↔ ((h : Delaying tags i) × (h .tag .0 ≡ t .0 → ⊥))
 unfolding tagState
 freed-exactly tags t i all = (there, λ p. record { tag = p .0 .tag; read = p .0 .read; state = setTag-other tags t Free (p .0 .tag) (p .1) ∙ p .0 .state; delays = p .0 .delays })
   where
@@ -164,7 +172,8 @@ freed-exactly tags t i all = (there, λ p. record { tag = p .0 .tag; read = p .0
 -- ---- tags marked
 
 -- the places stay as many
-pub invalidated-long : (tags : List TagRow) (range : Range) (i : ITag) → length (invalidatedTags range i tags) ≡ length tags
+pub invalidated-long : (tags : List TagRow) (range : Range) (i : ITag)
+    → length (invalidatedTags range i tags) ≡ length tags
 unfolding invalidatedTags
 invalidated-long tags range i = length-map tags (invalidatedRow range i)
 
@@ -195,16 +204,19 @@ tagState-allStale tags t = tagState-map staleState staleRow (λ p. one (p .state
     one (Read r) p e = rw e
 
 -- the range of a Translation Request goes by its address and its number of units,
-pub translationRange-units : (t : PendingTranslation) → translationRange t ≡ unitsFrom (t .address) (t .further) (t .stu)
+pub translationRange-units : (t : PendingTranslation)
+    → translationRange t ≡ unitsFrom (t .address) (t .further) (t .stu)
 unfolding translationRange
 translationRange-units t = refl
 
 -- and an invalidation concerns it by that range, and a translated read by all its bytes
-pub overlaps-translation : (range : Range) (t : PendingTranslation) → pendingOverlaps range (Translate t) ≡ overlaps (translationRange t) range
+pub overlaps-translation : (range : Range) (t : PendingTranslation)
+    → pendingOverlaps range (Translate t) ≡ overlaps (translationRange t) range
 unfolding pendingOverlaps
 overlaps-translation range t = refl
 
-pub overlaps-read : (range : Range) (f : PendingRead) → pendingOverlaps range (Read f) ≡ (f .translated && overlaps (rangeFrom (f .address) (f .bytes - 1)) range)
+pub overlaps-read : (range : Range) (f : PendingRead)
+    → pendingOverlaps range (Read f) ≡ (f .translated && overlaps (rangeFrom (f .address) (f .bytes - 1)) range)
 unfolding pendingOverlaps readRange
 overlaps-read range f = refl
 
@@ -213,23 +225,28 @@ module _ (range : Range) (i : ITag) where
   abbrev pub invalidatedIf : TagState → TagState
   invalidatedIf o = cond (pendingOverlaps range o) (invalidatedState i o) o
 
-  pub tagState-invalidated : (tags : List TagRow) (t : Tag) → tagState (invalidatedTags range i tags) t ≡ invalidatedIf (tagState tags t)
+  pub tagState-invalidated : (tags : List TagRow) (t : Tag)
+      → tagState (invalidatedTags range i tags) t ≡ invalidatedIf (tagState tags t)
   unfolding invalidatedTags pendingOverlaps
-  tagState-invalidated tags t = tagState-map invalidatedIf (invalidatedRow range i) (λ p. one (pendingOverlaps range (p .state)) p) refl tags t
+  tagState-invalidated tags t =
+      tagState-map invalidatedIf (invalidatedRow range i) (λ p. one (pendingOverlaps range (p .state)) p) refl tags t
     where
-      one : (b : Bool) (p : TagRow) → cond b (tagRow (invalidatedState i (p .state))) p .state ≡ cond b (invalidatedState i (p .state)) (p .state)
+      one : (b : Bool) (p : TagRow)
+          → cond b (tagRow (invalidatedState i (p .state))) p .state ≡ cond b (invalidatedState i (p .state)) (p .state)
       one true p = refl
       one false p = refl
 
 -- a tag that is stored is open for that, and no other changes
-pub tagState-setTag : (tags : List TagRow) (t : Tag) (o : TagState) (u : Tag) → length tags ≡ 32 → isTag t ≡ true → tagState (setTag tags t o) u ≡ cond (eqb (u .0) (t .0)) o (tagState tags u)
+pub tagState-setTag : (tags : List TagRow) (t : Tag) (o : TagState) (u : Tag) → length tags ≡ 32 → isTag t ≡ true
+    → tagState (setTag tags t o) u ≡ cond (eqb (u .0) (t .0)) o (tagState tags u)
 tagState-setTag tags t o u all own =
     byCases (eqb (u .0) (t .0))
     (λ e. let same : u ≡ t = ap (λ (k : ℕ). record { 0 = k }) (eqb-true (u .0) (t .0) e) in rw (e, same) (setTag-own tags t o all own))
     (λ e. rw e (setTag-other tags t o u (eqb-false (u .0) (t .0) e)))
 
 -- the lowest free tag is a tag, and free
-pub free-tag : (tags : List TagRow) (t : Tag) → length tags ≡ 32 → freeTag tags ≡ Lowest t → (isTag t ≡ true) × (tagState tags t ≡ Free)
+pub free-tag : (tags : List TagRow) (t : Tag) → length tags ≡ 32 → freeTag tags ≡ Lowest t
+    → (isTag t ≡ true) × (tagState tags t ≡ Free)
 unfolding tagState freeTag
 free-tag tags t all e =
     byCases (ltb first 32)

@@ -28,11 +28,13 @@ allFree = replicate 32 (tagRow Free)
 
 -- a Translation Request as it is sent
 abbrev pub newTranslation : ℕ → ℕ → ℕ → TagState
-newTranslation address further stu = Translate (record { address = address; further = further; stu = stu; stale = false; size = 0; whole = 0; due = 0 })
+newTranslation address further stu =
+    Translate (record { address = address; further = further; stu = stu; stale = false; size = 0; whole = 0; due = 0 })
 
 -- a read as it is sent
 abbrev pub newRead : ℕ → ℕ → Bool → TagState
-newRead address bytes translated = Read (record { address = address; bytes = bytes; due = bytes; translated = translated; itags = 0 })
+newRead address bytes translated =
+    Read (record { address = address; bytes = bytes; due = bytes; translated = translated; itags = 0 })
 
 abbrev pub isFreeState : TagState → Bool
 isFreeState Free = true
@@ -64,7 +66,8 @@ translationRange t = unitsFrom (t .address) (t .further) (t .stu)
 unfoldable pub readRange : PendingRead → Range
 readRange f = rangeFrom (f .address) (f .bytes - 1)
 
--- does an invalidation of a range concern it? Translation Requests by their whole range; reads only if sent with a translated address
+-- does an invalidation of a range concern it? Translation Requests by their whole range; reads only if
+-- sent with a translated address
 unfoldable pub pendingOverlaps : Range → TagState → Bool
 pendingOverlaps range Free = false
 pendingOverlaps range (Translate t) = overlaps (translationRange t) range

@@ -118,9 +118,9 @@ pub fn lowest_free(tags: [TagRow; 32]) -> FreeTag
 pub fn tag_state(tags: [TagRow; 32], t: Tag) -> TagState
     ensures { λ r. ⌜ r ≡ tagState tags t ⌝ }
 {
-    let i = t.0 as usize;
-    if i < 32 {
-        let p = tags[i];
+    let at = t.0 as usize;
+    if at < 32 {
+        let p = tags[at];
         p.state
     } else {
         TagState::Free

@@ -12,7 +12,8 @@ use Rattle.text.specs.Digits.{decimalIn, decimal}
 use Rattle.text.specs.Numerals.{zeros, numeral}
 
 -- a 64-bit number has at most twenty digits
-one-more : (k n : ℕ) (t : Bool) (ds : List ℕ) → length ds ≤ k → length (cond t ((48 + n) ∷ []) (ds ++ ((48 + n % 10) ∷ []))) ≤ suc k
+one-more : (k n : ℕ) (t : Bool) (ds : List ℕ) → length ds ≤ k
+    → length (cond t ((48 + n) ∷ []) (ds ++ ((48 + n % 10) ∷ []))) ≤ suc k
 one-more k n true ds h = suc-le-suc zero-le
 one-more k n false ds h = rw (length-append, add-one) (suc-le-suc h)
 

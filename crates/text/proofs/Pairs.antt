@@ -34,7 +34,8 @@ and-assoc false b c = refl
 pub allHex-append : (a b : List ℕ) → allHex (a ++ b) ≡ (allHex a && allHex b)
 unfolding allHex
 allHex-append [] b = refl
-allHex-append (x ∷ a) b = ap (λ (t : Bool). isHex x && t) (allHex-append a b) ∙ sym (and-assoc (isHex x) (allHex a) (allHex b))
+allHex-append (x ∷ a) b =
+    ap (λ (t : Bool). isHex x && t) (allHex-append a b) ∙ sym (and-assoc (isHex x) (allHex a) (allHex b))
 
 unhex-append : (a b : List ℕ) → length a % 2 ≡ 0 → unhex (a ++ b) ≡ unhex a ++ unhex b
 unfolding unhex
@@ -42,14 +43,16 @@ unhex-append [] b h = refl
 unhex-append (x ∷ []) b h = let z : _≡_ {A = ℕ} 1 0 = h in absurd (omega arith)
 unhex-append (x ∷ y ∷ a) b h = ap (λ (l : List ℕ). (hexValue x * 16 + hexValue y) ∷ l) (unhex-append a b (omega arith))
 
-pair-at : (cs : List ℕ) (n : ℕ) → n + 1 < length cs → take (n + 2) cs ≡ take n cs ++ (getD cs n 0 ∷ getD cs (n + 1) 0 ∷ [])
+pair-at : (cs : List ℕ) (n : ℕ) → n + 1 < length cs
+    → take (n + 2) cs ≡ take n cs ++ (getD cs n 0 ∷ getD cs (n + 1) 0 ∷ [])
 pair-at cs n h =
     let two : n + 2 ≡ suc (n + 1) = omega arith in
     let one : n + 1 ≡ suc n = add-one n in
     let h′ : n < length cs = omega arith in
     rw (two, take-suc cs (n + 1) 0 h, one, take-suc cs n 0 h′) (append-snoc (take n cs) (getD cs n 0) (getD cs (suc n) 0 ∷ []))
 
-rest-at : (cs : List ℕ) (n : ℕ) → n + 1 < length cs → drop n cs ≡ getD cs n 0 ∷ getD cs (n + 1) 0 ∷ drop (suc (n + 1)) cs
+rest-at : (cs : List ℕ) (n : ℕ) → n + 1 < length cs
+    → drop n cs ≡ getD cs n 0 ∷ getD cs (n + 1) 0 ∷ drop (suc (n + 1)) cs
 rest-at cs n h =
     let one : n + 1 ≡ suc n = add-one n in
     let h′ : n < length cs = omega arith in
@@ -74,7 +77,8 @@ module _ (cs bytes : List ℕ) (i : ℕ) (r : Run cs i bytes) (more : i * 2 + 1 
   even-front : length (take (i * 2) cs) % 2 ≡ 0
   even-front = let e = length-take-le (i * 2) cs (r .0) in omega arith
 
-  pub turn : (h l : ℕ) → i < length bytes → h ≡ hexValue (getD cs (i * 2) 0) → l ≡ hexValue (getD cs (i * 2 + 1) 0) → h ≤ 15 → l ≤ 15
+  pub turn : (h l : ℕ) → i < length bytes → h ≡ hexValue (getD cs (i * 2) 0) → l ≡ hexValue (getD cs (i * 2 + 1) 0)
+      → h ≤ 15 → l ≤ 15
       → Run cs (i + 1) (set bytes i (h * 16 + l))
   unfolding allHex unhex
   turn h l room eh el small small′ = (
@@ -96,7 +100,8 @@ and-false : (a b c : Bool) → (a && b) ≡ false → (a && (b && c)) ≡ false
 and-false true b c e = rw e
 and-false false b c e = refl
 
-pub no-byte : (cs : List ℕ) (n : ℕ) → allHex (take n cs) ≡ true → n + 1 < length cs → (isHex (getD cs n 0) && isHex (getD cs (n + 1) 0)) ≡ false → allHex cs ≡ false
+pub no-byte : (cs : List ℕ) (n : ℕ) → allHex (take n cs) ≡ true → n + 1 < length cs
+    → (isHex (getD cs n 0) && isHex (getD cs (n + 1) 0)) ≡ false → allHex cs ≡ false
 unfolding allHex
 no-byte cs n e more none =
     ap allHex (sym (take-append-drop n cs)) ∙ allHex-append (take n cs) (drop n cs)

@@ -9,7 +9,8 @@ values-at : (n c i : ℕ) → i < n → getD (valuesFrom n c) i 0 ≡ hexValue (
 unfolding valuesFrom
 values-at zero c i h = absurd (not-suc-le-zero h)
 values-at (suc n) c zero h = ap hexValue (sym (add-zero c))
-values-at (suc n) c (suc i) h = values-at n (suc c) i (le-of-suc-le-suc h) ∙ ap hexValue (suc-add c i ∙ sym (add-suc c i))
+values-at (suc n) c (suc i) h =
+    values-at n (suc c) i (le-of-suc-le-suc h) ∙ ap hexValue (suc-add c i ∙ sym (add-suc c i))
 
 pub value-of : (c : ℕ) → c < 256 → getD hexValues c 0 ≡ hexValue c
 unfolding hexValues

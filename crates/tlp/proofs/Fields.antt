@@ -30,15 +30,18 @@ use Rattle.tlp.specs.Fields.{TypedAccess, TypedBody, Typed}
 
 -- packets that are typed
 module _ (head : Head) (sound : head .sender < 65536) where
-  pub typed-request : (t : TranslationRequest) → t .tag .0 < 256 → t .address < 2 ^ 64 → Typed (record { head = head; body = Tr t })
+  pub typed-request : (t : TranslationRequest) → t .tag .0 < 256 → t .address < 2 ^ 64
+      → Typed (record { head = head; body = Tr t })
   unfolding TypedBody
   typed-request t tag address = record { sender = sound; body = (tag, address) }
 
-  pub typed-access : (m : MemoryRequest) → TypedAccess (m .access) → m .address < 2 ^ 64 → Typed (record { head = head; body = Mem m })
+  pub typed-access : (m : MemoryRequest) → TypedAccess (m .access) → m .address < 2 ^ 64
+      → Typed (record { head = head; body = Mem m })
   unfolding TypedBody
   typed-access m access address = record { sender = sound; body = (access, address) }
 
-  pub typed-completion : (i : InvalidateCompletion) → i .device < 65536 → i .vector < 2 ^ 32 → Typed (record { head = head; body = Ic i })
+  pub typed-completion : (i : InvalidateCompletion) → i .device < 65536 → i .vector < 2 ^ 32
+      → Typed (record { head = head; body = Ic i })
   unfolding TypedBody
   typed-completion i device vector = record { sender = sound; body = (device, vector) }
 
@@ -127,7 +130,8 @@ module _ (a n : ℕ) (z : a % 4096 ≡ 0) (h : n ≤ 1) where
   tr-lt k = omega arith
 
 -- MEM: AT from the flag and back
-at-back : (t : Bool) → (eqb (bitOf t * 2) 1 ≡ false) × (eqb (bitOf t * 2 % 2) 0 ≡ true) × (eqb (bitOf t * 2) 2 ≡ t) × (bitOf t * 2 < 4)
+at-back : (t : Bool)
+    → (eqb (bitOf t * 2) 1 ≡ false) × (eqb (bitOf t * 2 % 2) 0 ≡ true) × (eqb (bitOf t * 2) 2 ≡ t) × (bitOf t * 2 < 4)
 at-back true = (refl, refl, refl, lit≤ tt)
 at-back false = (refl, refl, refl, lit≤ tt)
 
@@ -383,17 +387,22 @@ loaded f n h e = let k = leb-true n 32 e in omega arith
 unloaded : (f : ℕ) → f ≤ 16 → f + 0 ≤ 144
 unloaded f h = omega arith
 
-mem-longest : (access : Access) (w a : ℕ) → shortEnough w ≡ true → payloadOffset (accessForm access a) + accessPayloadLength access w ≤ 144
-mem-longest (Read tag) w a e = unloaded (payloadOffset (cond (needs64Bits a) Mrd64 Mrd32)) (fetches (needs64Bits a) .fixed)
-mem-longest Write w a e = loaded (payloadOffset (cond (needs64Bits a) Mwr64 Mwr32)) (dwordCount w) (stores (needs64Bits a) .fixed) e
+mem-longest : (access : Access) (w a : ℕ) → shortEnough w ≡ true
+    → payloadOffset (accessForm access a) + accessPayloadLength access w ≤ 144
+mem-longest (Read tag) w a e =
+    unloaded (payloadOffset (cond (needs64Bits a) Mrd64 Mrd32)) (fetches (needs64Bits a) .fixed)
+mem-longest Write w a e =
+    loaded (payloadOffset (cond (needs64Bits a) Mwr64 Mwr32)) (dwordCount w) (stores (needs64Bits a) .fixed) e
 
-cpl-longest : (outcome : Outcome) → allowedOutcome outcome ≡ true → payloadOffset (outcomeForm outcome) + outcomePayloadLength outcome ≤ 144
+cpl-longest : (outcome : Outcome) → allowedOutcome outcome ≡ true
+    → payloadOffset (outcomeForm outcome) + outcomePayloadLength outcome ≤ 144
 cpl-longest (Data w) e = loaded 12 (dwordCount w) (lit≤ tt) e
 cpl-longest (Status s) e = lit≤ tt
 
 pub longest : (tc : ℕ) (b : Body) → allowedBody tc b ≡ true → payloadOffset (formOf b) + payloadLength b ≤ 144
 unfolding allowedBody formOf payloadLength
-longest tc (Tr t) e = unloaded (payloadOffset (cond (needs64Bits (t .address)) Mrd64 Mrd32)) (fetches (needs64Bits (t .address)) .fixed)
+longest tc (Tr t) e =
+    unloaded (payloadOffset (cond (needs64Bits (t .address)) Mrd64 Mrd32)) (fetches (needs64Bits (t .address)) .fixed)
 longest tc (Mem m) e = mem-longest (m .access) (m .dwords) (m .address) e
 longest tc (Cpl c) e = cpl-longest (c .outcome) e
 longest tc (Inv i) e = lit≤ tt

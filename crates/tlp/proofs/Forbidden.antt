@@ -53,7 +53,8 @@ tr-says false true true = refl
 tr-says false true false = refl
 tr-says false false s = refl
 
-tr-long-says : (l p q s : Bool) → ((l && p) && (q && s)) ≡ not ((not q || not s) || ((not p || false) || (not l || false)))
+tr-long-says : (l p q s : Bool)
+    → ((l && p) && (q && s)) ≡ not ((not q || not s) || ((not p || false) || (not l || false)))
 tr-long-says true p q s = tr-says p q s
 tr-long-says false true true true = refl
 tr-long-says false true true false = refl
@@ -188,7 +189,8 @@ pub reads-by-phrases : (b : List ℕ) → reading b ≡ readingByPhrases b
 unfolding reading readForm decodeFrame
 reads-by-phrases b = ap (λ (x : Result Packet). refuse 1 (ltb (length b) 12) (refuse 1 (ltb 144 (length b)) x)) (go (choose (decodeFrame b .byte0) (decodeFrame b .byte7)) refl)
   where
-    go : (c : Choice) → choose (decodeFrame b .byte0) (decodeFrame b .byte7) ≡ c → readChoice c (decodeFrame b) (length b) ≡ readListed c (decodeFrame b) (length b)
+    go : (c : Choice) → choose (decodeFrame b .byte0) (decodeFrame b .byte7) ≡ c
+        → readChoice c (decodeFrame b) (length b) ≡ readListed c (decodeFrame b) (length b)
     go Unlisted e = refl
     go (Listed m) e =
         let f = decodeFrame b in
@@ -212,6 +214,7 @@ module _ (p : Packet) (ty : Typed p) where
   unfolding writing
   writes-by-phrases load room = byCases (fieldsInRange p) (λ w. rw (w, allowed-by-phrases w) (ap (λ (x : Result ℕ). check 12 (eqb load (payloadLength (p .body))) x) (turned (forbidden (packetFrame (p .head) (p .body)))))) (λ w. rw w)
     where
-      turned : (z : Bool) → check 4 (not z) (checkRoom (payloadOffset (formOf (p .body)) + load) room) ≡ refuse 4 z (checkRoom (payloadOffset (formOf (p .body)) + load) room)
+      turned : (z : Bool)
+          → check 4 (not z) (checkRoom (payloadOffset (formOf (p .body)) + load) room) ≡ refuse 4 z (checkRoom (payloadOffset (formOf (p .body)) + load) room)
       turned true = refl
       turned false = refl

@@ -236,7 +236,8 @@ full b =
       body = num64At b 16;
     }
 
-upTo-full : (m : Form) (b : List ℕ) → payloadOffset m ≤ length b → upTo (payloadOffset m) (decodeFrame b) ≡ upTo (payloadOffset m) (full b)
+upTo-full : (m : Form) (b : List ℕ) → payloadOffset m ≤ length b
+    → upTo (payloadOffset m) (decodeFrame b) ≡ upTo (payloadOffset m) (full b)
 unfolding decodeFrame
 upTo-full m b h =
     by-fixed (λ (n : ℕ). n ≤ length b → upTo n (decodeFrame b) ≡ upTo n (full b))
@@ -311,7 +312,8 @@ module _ (b : List ℕ) (h : Bytes b) (h1 : byte b 1 / 16 % 8 * 16 ≡ byte b 1)
         b20 .3,
       )
 
-  pub encodeFrame-upTo : (m : Form) → payloadOffset m ≤ length b → take (payloadOffset m) (encodeFrame (upTo (payloadOffset m) (decodeFrame b))) ≡ take (payloadOffset m) b
+  pub encodeFrame-upTo : (m : Form) → payloadOffset m ≤ length b
+      → take (payloadOffset m) (encodeFrame (upTo (payloadOffset m) (decodeFrame b))) ≡ take (payloadOffset m) b
   encodeFrame-upTo m k =
       ap (λ (f : Frame). take (payloadOffset m) (encodeFrame f)) (upTo-full m b k)
       ∙ by-fixed (λ (n : ℕ). take n (encodeFrame (upTo n (full b))) ≡ take n (encodeFrame (full b))) refl refl refl m

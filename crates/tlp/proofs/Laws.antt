@@ -109,7 +109,8 @@ module _ (b : List ℕ) (p : Packet) (h : Bytes b) (e : reading b ≡ ok p) wher
 
   -- its payload is as long as it says
   pub read-load : length (payloadIn b) ≡ payloadLength (p .body)
-  read-load = accepted p (length (payloadIn b)) (length b) (length b) (read-writes b p (length b) h e (omega arith)) .fills
+  read-load =
+      accepted p (length (payloadIn b)) (length b) (length b) (read-writes b p (length b) h e (omega arith)) .fills
 
   -- that of a completion begins at byte 12
   pub completion-payload : (c : Completion) → p .body ≡ Cpl c → payloadIn b ≡ drop 12 b
@@ -127,7 +128,8 @@ size-given a s h k = go (sizeOf a s) refl
     go (Exponent e) q = (e, q)
     go NoSize q = absurd (all-ones (no-size a s h q))
 
-pub read-sized : (b : List ℕ) (p : Packet) (i : InvalidateRequest) → Bytes b → reading b ≡ ok p → p .body ≡ Inv i → (e : ℕ) × (sizeOf (i .address) (i .sized) ≡ Exponent e)
+pub read-sized : (b : List ℕ) (p : Packet) (i : InvalidateRequest) → Bytes b → reading b ≡ ok p → p .body ≡ Inv i
+    → (e : ℕ) × (sizeOf (i .address) (i .sized) ≡ Exponent e)
 unfolding TypedBody allowedBody
 read-sized b p i h e q =
     let ty = rw q at (read-typed b p h e .body) in

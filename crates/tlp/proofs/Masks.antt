@@ -1,4 +1,5 @@
--- Bytes under masks: the frame of the masked bytes is the frame of the bytes under the frame of the masks, field by field.
+-- Bytes under masks: the frame of the masked bytes is the frame of the bytes under the frame
+-- of the masks, field by field.
 use Prim.Native.Nat.{ℕ, zero, suc, _+_, _*_, _/_, _%_, _<_, _≤_}
 use native.Mathlib.Omega.{arith}
 use native.Mathlib.Nat.{le-refl, not-suc-le-zero, le-of-suc-le-suc}
@@ -86,7 +87,8 @@ meet f g =
     }
 
 -- a field that is there only where the bytes and the masks reach it
-reached : (end n l x y z : ℕ) → (end ≤ n → x ≡ bitAnd y z) → cond (ltb n end) 0 (cond (ltb l end) 0 x) ≡ bitAnd (cond (ltb l end) 0 y) (cond (ltb n end) 0 z)
+reached : (end n l x y z : ℕ) → (end ≤ n → x ≡ bitAnd y z)
+    → cond (ltb n end) 0 (cond (ltb l end) 0 x) ≡ bitAnd (cond (ltb l end) 0 y) (cond (ltb n end) 0 z)
 reached end n l x y z e =
     byCases (ltb n end)
     (λ p. rw p (sym (and-zero-r (cond (ltb l end) 0 y))))

@@ -190,7 +190,8 @@ module _ (f : Frame) (s : Sound f) (z : f .marks ≡ 0) where
   short : (x : ℕ) → x ≤ f .dword8 → needs64Bits x ≡ false
   short x h = let k = s .dword8 in let g : x < 2 ^ 32 = omega arith in lt-leb (2 ^ 32) x g
 
-  long : (x r : ℕ) → x ≡ f .dword8 * 2 ^ 32 + r → 0 < f .dword8 → r ≤ f .dword12 → (needs64Bits x ≡ true) × (x / 2 ^ 32 ≡ f .dword8) × (x % 2 ^ 32 ≡ r)
+  long : (x r : ℕ) → x ≡ f .dword8 * 2 ^ 32 + r → 0 < f .dword8 → r ≤ f .dword12
+      → (needs64Bits x ≡ true) × (x / 2 ^ 32 ≡ f .dword8) × (x % 2 ^ 32 ≡ r)
   long x r e u h =
       let k = s .dword12 in
       let l : r < 2 ^ 32 = omega arith in
@@ -272,7 +273,8 @@ module _ (f : Frame) (s : Sound f) (z : f .marks ≡ 0) where
       (eqb-true (f .at % 2) 0 (p .0), eqb-true (f .byte7) (byteEnables (f .dwords)) (p .1))
 
   -- 00h and 20h are a TR or a MEM read
-  fetched : {A : Type 0} → wellFormedReadRequest f ≡ true → (f .at ≡ 1 → f .byte7 ≡ 0xFF → A) → (eqb (f .at) 1 ≡ false → f .at % 2 ≡ 0 → f .byte7 ≡ byteEnables (f .dwords) → A) → A
+  fetched : {A : Type 0} → wellFormedReadRequest f ≡ true → (f .at ≡ 1 → f .byte7 ≡ 0xFF → A)
+      → (eqb (f .at) 1 ≡ false → f .at % 2 ≡ 0 → f .byte7 ≡ byteEnables (f .dwords) → A) → A
   fetched e t m =
       byCases (eqb (f .at) 1)
       (λ p. t (eqb-true (f .at) 1 p) (eqb-true (f .byte7) 0xFF (rw p at e)))
@@ -319,8 +321,10 @@ module _ (f : Frame) (s : Sound f) (z : f .marks ≡ 0) where
       let g = mem-shape (u .1) in
       let w = long (address64In f / 4 * 4) (f .dword12 / 4 * 4) (parts-above (f .dword8) (f .dword12) .2) (u .0) (parts-le (f .dword12) .2) in
       mem Mwr64 Write (address64In f) refl (simp (w .0)) (simp (w .0, w .1, w .2)) refl b0 (g .0) (g .1)
-  refit CplNoData e b0 b7 = cpl CplNoData (Status (f .byte6 / 32)) refl refl refl refl b0 refl (lt-ltb (f .byte6 / 32) 8 status-lt)
-  refit CplData e b0 b7 = cpl CplData (Data (f .dwords)) refl refl refl refl b0 (sym (eqb-true (f .byte6 / 32) 0 e)) words-fit
+  refit CplNoData e b0 b7 =
+      cpl CplNoData (Status (f .byte6 / 32)) refl refl refl refl b0 refl (lt-ltb (f .byte6 / 32) 8 status-lt)
+  refit CplData e b0 b7 =
+      cpl CplData (Data (f .dwords)) refl refl refl refl b0 (sym (eqb-true (f .byte6 / 32) 0 e)) words-fit
   refit InvReq e b0 b7 = inv b0 b7 (eqb-true (f .dwords) 2 e)
   refit InvCpl e b0 b7 = ic b0 b7
   refit PageReq e b0 b7 = prq b0 b7

@@ -32,7 +32,9 @@ use Rattle.lemmas.proofs.Cases.{impossible}
 
 -- ---- a refused packet leaves the buffer as it was
 
-pub refused-writes-nothing : (p : Packet) (payload out : List ℕ) (k : ℕ) → writing p (length payload) (length out) ≡ refusal k → bufferAfter (writing p (length payload) (length out)) (bytesOf p payload) out ≡ out
+pub refused-writes-nothing : (p : Packet) (payload out : List ℕ) (k : ℕ)
+    → writing p (length payload) (length out) ≡ refusal k
+    → bufferAfter (writing p (length payload) (length out)) (bytesOf p payload) out ≡ out
 refused-writes-nothing p payload out k e = rw e
 
 -- ---- what is written reads as the packet that it was written from
@@ -43,12 +45,14 @@ unfolding reading
 read-by-frame b h k = rw (le-ltb (length b) 12 h, le-ltb 144 (length b) k)
 
 -- and by the form that it chooses
-read-by-form : (b : List ℕ) (m : Form) (n : ℕ) → choose (byte b 0) (byte b 7) ≡ Listed m → readFrame (decodeFrame b) n ≡ readForm m (decodeFrame b) n
+read-by-form : (b : List ℕ) (m : Form) (n : ℕ) → choose (byte b 0) (byte b 7) ≡ Listed m
+    → readFrame (decodeFrame b) n ≡ readForm m (decodeFrame b) n
 unfolding decodeFrame
 read-by-form b m n e = ap (λ (c : Choice). readChoice c (decodeFrame b) n) e
 
 -- a frame that passes each test is read as its packet
-read-whole : (m : Form) (f : Frame) (n : ℕ) → n ≡ packetLength m (f .dwords) → f .marks ≡ 0 → wellFormed m f ≡ true → allowed (packetIn m f) ≡ true → readForm m f n ≡ ok (packetIn m f)
+read-whole : (m : Form) (f : Frame) (n : ℕ) → n ≡ packetLength m (f .dwords) → f .marks ≡ 0 → wellFormed m f ≡ true
+    → allowed (packetIn m f) ≡ true → readForm m f n ≡ ok (packetIn m f)
 unfolding readForm
 read-whole m f n l z s a = rw (eq-eqb n (packetLength m (f .dwords)) l, eq-eqb (f .marks) 0 z, s, a)
 
@@ -109,13 +113,15 @@ module _ (p : Packet) (payload : List ℕ) (room n : ℕ) (ty : Typed p) (e : wr
 -- ---- reading looks at no ignored bit
 
 module _ (b : List ℕ) (h : Bytes b) where
-  normal-frame : (m : Form) (t : Bool) → t ≡ eqb (decodeFrame b .at) 1 → readForm m (decodeFrame (masked (maskOf m t) b)) (length b) ≡ readForm m (decodeFrame b) (length b)
+  normal-frame : (m : Form) (t : Bool) → t ≡ eqb (decodeFrame b .at) 1
+      → readForm m (decodeFrame (masked (maskOf m t) b)) (length b) ≡ readForm m (decodeFrame b) (length b)
   normal-frame m t e =
       sym (read-upTo m (decodeFrame (masked (maskOf m t) b)) (length b))
       ∙ ap (λ (f : Frame). readForm m f (length b)) (tidy-frame b h m t)
       ∙ rw e (read-tidy (decodeFrame b) (length b) m)
 
-  normal-as : (c : Choice) → choose (byte b 0) (byte b 7) ≡ c → reading (normalAs c (eqb (decodeFrame b .at) 1) b) ≡ reading b
+  normal-as : (c : Choice) → choose (byte b 0) (byte b 7) ≡ c
+      → reading (normalAs c (eqb (decodeFrame b .at) 1) b) ≡ reading b
   unfolding reading
   normal-as Unlisted e = refl
   normal-as (Listed m) e =
@@ -144,7 +150,8 @@ pub record Taken (b : List ℕ) (p : Packet) : Type 0 where
   pub whole : packetIn form (decodeFrame b) ≡ p
 
 module _ (b : List ℕ) (p : Packet) (low : 12 ≤ length b) where
-  taken-as : (c : Choice) → choose (byte b 0) (byte b 7) ≡ c → readChoice c (decodeFrame b) (length b) ≡ ok p → Taken b p
+  taken-as : (c : Choice) → choose (byte b 0) (byte b 7) ≡ c → readChoice c (decodeFrame b) (length b) ≡ ok p
+      → Taken b p
   unfolding readForm
   taken-as Unlisted q e = impossible cc
   taken-as (Listed m) q e =
@@ -228,5 +235,6 @@ module _ (b : List ℕ) (p : Packet) (h : Bytes b) (e : reading b ≡ ok p) wher
       rw (tc, refitted .within, eq-eqb (length (payloadIn b)) (payloadLength (bodyIn m f)) load, a, refitted .form, wide, le-ltb room (length b) k) in
       ap (λ (x : Packet). writing x (length (payloadIn b)) room) (sym (told .whole)) ∙ all
 
-pub read-writes : (b : List ℕ) (p : Packet) (room : ℕ) → Bytes b → reading b ≡ ok p → length b ≤ room → writing p (length (payloadIn b)) room ≡ ok (length b)
+pub read-writes : (b : List ℕ) (p : Packet) (room : ℕ) → Bytes b → reading b ≡ ok p → length b ≤ room
+    → writing p (length (payloadIn b)) room ≡ ok (length b)
 read-writes b p room h e k = writes-back b p h e room k

@@ -30,7 +30,8 @@ whole : (k x : ℕ) → x < 2 ^ k → bitAnd x (2 ^ k - 1) ≡ x
 whole k x h = and-mask x k ∙ mod-eq-of-lt h
 
 -- j ones above bit k, and l ones below it
-parted : (j k l x : ℕ) → 2 ^ l - 1 < 2 ^ k → bitAnd x ((2 ^ j - 1) * 2 ^ k + (2 ^ l - 1)) ≡ x / 2 ^ k % 2 ^ j * 2 ^ k + x % 2 ^ k % 2 ^ l
+parted : (j k l x : ℕ) → 2 ^ l - 1 < 2 ^ k
+    → bitAnd x ((2 ^ j - 1) * 2 ^ k + (2 ^ l - 1)) ≡ x / 2 ^ k % 2 ^ j * 2 ^ k + x % 2 ^ k % 2 ^ l
 parted j k l x h =
     ap (λ (y : ℕ). bitAnd y ((2 ^ j - 1) * 2 ^ k + (2 ^ l - 1))) (sym (div-add-mod' x (2 ^ k)))
     ∙ and-block k (x / 2 ^ k) (2 ^ j - 1) (x % 2 ^ k) (2 ^ l - 1) (mod-lt x (pow-pos k)) h
@@ -146,7 +147,8 @@ module _ (f : Frame) (s : Sound f) where
   tidy-is Mwr64 tr = simp (alls, mask-mem (f .dword12) (s .dword12))
   tidy-is CplNoData tr = simp (alls, mask-status (f .byte6) (s .byte6), mask-target (f .dword8) (s .dword8))
   tidy-is CplData tr = simp (alls, mask-status (f .byte6) (s .byte6), mask-target (f .dword8) (s .dword8))
-  tidy-is InvReq tr = simp (alls, and-mask (f .byte6) 5, mask-device (f .dword8) (s .dword8), mask-size (f .body) (s .body))
+  tidy-is InvReq tr =
+      simp (alls, and-mask (f .byte6) 5, mask-device (f .dword8) (s .dword8), mask-size (f .body) (s .body))
   tidy-is InvCpl tr = simp (alls, mask-cc (f .dword8) (s .dword8))
   tidy-is PageReq tr = simp alls
   tidy-is PrgResp tr = simp (alls, mask-code (f .dword8) (s .dword8))

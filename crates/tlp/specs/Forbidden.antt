@@ -66,7 +66,8 @@ lengthAbove32 f = (isMem f || hasData f) && above32 (f .dwords)
 
 -- byte 7 of a message is its code: another there is number 2
 abbrev pub otherByte7 : Frame → Bool
-otherByte7 f = (isTr f && not (eqb (f .byte7) 0xFF)) || (isMem f && not (eqb (f .byte7) (cond (eqb (f .dwords) 1) 0x0F 0xFF)))
+otherByte7 f =
+    (isTr f && not (eqb (f .byte7) 0xFF)) || (isMem f && not (eqb (f .byte7) (cond (eqb (f .dwords) 1) 0x0F 0xFF)))
 
 abbrev pub upperHalfZero : Frame → Bool
 upperHalfZero f = is64Bit f && eqb (f .dword8) 0

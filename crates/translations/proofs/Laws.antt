@@ -28,7 +28,8 @@ use Rattle.translations.specs.Fills.{allowsAccess, entryOf, regionIndex,
 abbrev pub Inside : Range → ℕ → Type 0
 Inside range a = (range .first ≤ a) × (a ≤ range .last)
 
--- An entry that a completion with the payload brings for its request: of a unit of the range, and just what the translation over that unit gives.
+-- An entry that a completion with the payload brings for its request: of a unit of the range, and just what the
+-- translation over that unit gives.
 pub record Brought (q : PendingTranslation) (load : List ℕ) (x : Entry) : Type 0 where
   pub unit : ℕ
   pub among : unit < unitCount (q .further)
@@ -48,11 +49,15 @@ module _ (q : PendingTranslation) (load : List ℕ) where
   first = translationRange q .first
 
   -- what is kept by each fill that the completion brings and by each deletion is kept by the completion
-  pub applied-keeps : (P : Cache → Type 0) (c : Cache) → P c → ((x : Entry) (d : Cache) → Brought q load x → P d → P (filledWith x d)) → ((unit : ℕ) (d : Cache) → Inside (translationRange q) unit → P d → P (unitDropped unit d)) → P (applied q load c)
+  pub applied-keeps : (P : Cache → Type 0) (c : Cache) → P c
+      → ((x : Entry) (d : Cache) → Brought q load x → P d → P (filledWith x d))
+      → ((unit : ℕ) (d : Cache) → Inside (translationRange q) unit → P d → P (unitDropped unit d))
+      → P (applied q load c)
   unfolding applied updatedAt updatedIfCovered unitUpdated
   applied-keeps P c h fills drops = iterate-invariant _ P (unitCount (q .further)) c h (λ j d among k. one j d among k)
     where
-      one : (j : ℕ) (d : Cache) → j < unitCount (q .further) → P d → P (updatedAt (translationRange q) (q .stu) e (receivedCount q) load j d)
+      one : (j : ℕ) (d : Cache) → j < unitCount (q .further) → P d
+          → P (updatedAt (translationRange q) (q .stu) e (receivedCount q) load j d)
       one j d among k =
           let a = first + j * unitBytes (q .stu) in
           let r = regionIndex first e a in
@@ -78,10 +83,12 @@ module _ (q : PendingTranslation) (load : List ℕ) where
           (λ later. k)))
 
   pub applied-sound : (c : Cache) → SoundCache c → SoundCache (applied q load c)
-  applied-sound c s = applied-keeps SoundCache c s (λ x d b k. laws .fill-sound x d k) (λ unit d b k. laws .drop-sound unit d k)
+  applied-sound c s =
+      applied-keeps SoundCache c s (λ x d b k. laws .fill-sound x d k) (λ unit d b k. laws .drop-sound unit d k)
 
   -- each slot holds what it held, or nothing, or what the completion brought
-  pub applied-entry : (c : Cache) → SoundCache c → (i : ℕ) → (entryAt (applied q load c) i ≡ entryAt c i) ⊎ ((entryAt (applied q load c) i ≡ noEntry) ⊎ Brought q load (entryAt (applied q load c) i))
+  pub applied-entry : (c : Cache) → SoundCache c → (i : ℕ)
+      → (entryAt (applied q load c) i ≡ entryAt c i) ⊎ ((entryAt (applied q load c) i ≡ noEntry) ⊎ Brought q load (entryAt (applied q load c) i))
   applied-entry c s i =
       applied-keeps (λ d. SoundCache d × From (entryAt d i)) c (s, inl refl)
       (λ x d b k. (laws .fill-sound x d (k .0), ⊎-elim (λ same. rw same (k .1)) (λ new. inr (inr (rw new b))) (laws .fill-entry x d (k .0) i)))
@@ -91,7 +98,8 @@ module _ (q : PendingTranslation) (load : List ℕ) where
       From x = (x ≡ entryAt c i) ⊎ ((x ≡ noEntry) ⊎ Brought q load x)
 
   -- a unit outside the range gets no entry: it keeps its own, or loses it
-  pub applied-outside : (c : Cache) → SoundCache c → (unit : ℕ) → (Inside (translationRange q) unit → ⊥) → (found (applied q load c) unit ≡ found c unit) ⊎ (found (applied q load c) unit ≡ Miss)
+  pub applied-outside : (c : Cache) → SoundCache c → (unit : ℕ) → (Inside (translationRange q) unit → ⊥)
+      → (found (applied q load c) unit ≡ found c unit) ⊎ (found (applied q load c) unit ≡ Miss)
   applied-outside c s unit outside =
       applied-keeps (λ d. SoundCache d × Seen (found d unit)) c (s, inl refl)
       (λ x d b k. (laws .fill-sound x d (k .0), ⊎-elim (λ a. rw a (k .1)) inr (laws .fill-other x d (k .0) unit (λ e. outside (rw e at (b .inside))))))

@@ -57,7 +57,8 @@ module _ (rcb : Rcb) (most count lower bytes : ℕ) where
       whole true q = impossible cc
       whole false q = impossible cc
 
-second-part : (due count lower bytes : ℕ) (x : Part) → (Misfit ≡ x → ⊥) → secondPart due count lower bytes ≡ x → (Last ≡ x) × (count ≡ bytes)
+second-part : (due count lower bytes : ℕ) (x : Part) → (Misfit ≡ x → ⊥) → secondPart due count lower bytes ≡ x
+    → (Last ≡ x) × (count ≡ bytes)
 unfolding secondPart
 second-part due count lower bytes x h e =
     let a = fitted (eqb count due) _ x h e in
@@ -66,7 +67,8 @@ second-part due count lower bytes x h e =
     (c .1, eqb-true count due (a .0) ∙ sym (eqb-true bytes due (b .0)))
 
 module _ (q : PendingTranslation) (rcb : Rcb) (count lower bytes : ℕ) where
-  part-of : (x : Part) → (Misfit ≡ x → ⊥) → partOf q rcb count lower bytes ≡ x → cond (eqb (q .due) 0) (firstPart rcb (8 * unitCount (q .further)) count lower bytes) (secondPart (q .due) count lower bytes) ≡ x
+  part-of : (x : Part) → (Misfit ≡ x → ⊥) → partOf q rcb count lower bytes ≡ x
+      → cond (eqb (q .due) 0) (firstPart rcb (8 * unitCount (q .further)) count lower bytes) (secondPart (q .due) count lower bytes) ≡ x
   unfolding partOf
   part-of x h e = fitted (eqb (bytes % 8) 0) _ x h e .1
 
@@ -84,7 +86,8 @@ module _ (q : PendingTranslation) (rcb : Rcb) (count lower bytes : ℕ) where
       (λ u. (eqb-true (q .due) 0 u, of-two rcb _ count lower bytes (rw u at p)))
       (λ u. let r = second-part (q .due) count lower bytes First misfit-first (rw u at p) .0 in impossible cc)
 
-classified-by : (fit : Bool) (p x : Part) → (Misfit ≡ x → ⊥) → (OffBoundary ≡ x → ⊥) → classifiedBy fit p ≡ x → (fit ≡ true) × (p ≡ x)
+classified-by : (fit : Bool) (p x : Part) → (Misfit ≡ x → ⊥) → (OffBoundary ≡ x → ⊥) → classifiedBy fit p ≡ x
+    → (fit ≡ true) × (p ≡ x)
 classified-by fit Misfit x h g e = absurd (h e)
 classified-by fit OffBoundary x h g e = absurd (g e)
 classified-by fit First x h g e = fitted fit First x h e
@@ -117,20 +120,24 @@ module _ (q : PendingTranslation) (rcb : Rcb) (count lower : ℕ) (load : List �
   unfolding classified
   off-whole e = part-ends q rcb count lower (length load) OffBoundary misfit-off first-off (classified-off (translationsFit q load) (partOf q rcb count lower (length load)) e)
 
-  pub first-begins : classified q rcb count lower load ≡ First → (q .due ≡ 0) × ((length load ≤ count) × (count ≡ length load → ⊥))
+  pub first-begins : classified q rcb count lower load ≡ First
+      → (q .due ≡ 0) × ((length load ≤ count) × (count ≡ length load → ⊥))
   unfolding classified
   first-begins e = part-begins q rcb count lower (length load) (classified-by (translationsFit q load) (partOf q rcb count lower (length load)) First misfit-first off-first e .1)
 
   pub first-fits : classified q rcb count lower load ≡ First → translationsFit q load ≡ true
   unfolding classified
-  first-fits e = classified-by (translationsFit q load) (partOf q rcb count lower (length load)) First misfit-first off-first e .0
+  first-fits e =
+      classified-by (translationsFit q load) (partOf q rcb count lower (length load)) First misfit-first off-first e .0
 
   pub last-fits : classified q rcb count lower load ≡ Last → translationsFit q load ≡ true
   unfolding classified
-  last-fits e = classified-by (translationsFit q load) (partOf q rcb count lower (length load)) Last misfit-last off-last e .0
+  last-fits e =
+      classified-by (translationsFit q load) (partOf q rcb count lower (length load)) Last misfit-last off-last e .0
 
 -- what fits has one size, its first translation's
-pub one-size : (q : PendingTranslation) (load : List ℕ) → translationsFit q load ≡ true → 0 < length load / 8 → exponentOr0 (translationAt load 0 .size) ≡ exponentOr0 (commonSize q load)
+pub one-size : (q : PendingTranslation) (load : List ℕ) → translationsFit q load ≡ true → 0 < length load / 8
+    → exponentOr0 (translationAt load 0 .size) ≡ exponentOr0 (commonSize q load)
 unfolding commonSize sizeFits allFit translationFits
 one-size q load f some = byCases (eqb (q .due) 0) (λ u. rw u refl) (λ u. rw u (second (rw u at f)))
   where

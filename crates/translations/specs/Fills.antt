@@ -20,7 +20,8 @@ use Rattle.translations.specs.Fits.{commonSize, exponentOr0, receivedCou
 abbrev pub allowsAccess : Translation → Bool
 allowsAccess x = x .r || x .w
 
--- the entry of a unit: the place that the unit has in its region, in the translation's region, but 0 under U; R, W, N and U as given
+-- the entry of a unit: the place that the unit has in its region, in the translation's region, but 0
+-- under U; R, W, N and U as given
 abbrev pub entryOf : Translation → ℕ → ℕ → Entry
 entryOf x e unit =
     record {

@@ -30,9 +30,10 @@ boundary B128 = 128
 unfoldable pub onBoundary : Rcb → ℕ → Bool
 onBoundary rcb n = eqb (n % boundary rcb) 0
 
--- A first packet, by its Byte Count, Lower Address and payload's bytes, for a request of at most `most` bytes: Byte Count is whole translations, no less
--- than the payload and no more than was asked. Where it is the payload, the packet is the only one, and must end on the boundary to be read; where
--- it is more, the packet must end on the boundary for the second to follow.
+-- A first packet, by its Byte Count, Lower Address and payload's bytes, for a request of at most `most` bytes: Byte
+-- Count is whole translations, no less than the payload and no more than was asked. Where it is the payload, the
+-- packet is the only one, and must end on the boundary to be read; where it is more, the packet must end on the
+-- boundary for the second to follow.
 unfoldable pub firstPart : Rcb → ℕ → ℕ → ℕ → ℕ → Part
 firstPart rcb most count lower bytes =
     checkFit (eqb (count % 8) 0)
@@ -78,11 +79,13 @@ translationFits range e k size = sizeIs size e && beginsIn range e k
 
 -- every translation of the payload, each counted after those that came before
 unfoldable pub allFit : Range → ℕ → ℕ → List ℕ → Bool
-allFit range e before payload = allBelow (λ i. translationFits range e (before + i) (translationAt payload i .size)) (length payload / 8)
+allFit range e before payload =
+    allBelow (λ i. translationFits range e (before + i) (translationAt payload i .size)) (length payload / 8)
 
 -- a size that is none does not fit, nor does one below the unit
 unfoldable pub sizeFits : PendingTranslation → Size → List ℕ → Bool
-sizeFits t (Exponent e) payload = leb (unitExponent (t .stu)) e && allFit (translationRange t) e (receivedCount t) payload
+sizeFits t (Exponent e) payload =
+    leb (unitExponent (t .stu)) e && allFit (translationRange t) e (receivedCount t) payload
 sizeFits t NoSize payload = false
 
 abbrev pub translationsFit : PendingTranslation → List ℕ → Bool
@@ -96,4 +99,5 @@ classifiedBy fit First = checkFit fit First
 classifiedBy fit Last = checkFit fit Last
 
 unfoldable pub classified : PendingTranslation → Rcb → ℕ → ℕ → List ℕ → Part
-classified t rcb count lower payload = classifiedBy (translationsFit t payload) (partOf t rcb count lower (length payload))
+classified t rcb count lower payload =
+    classifiedBy (translationsFit t payload) (partOf t rcb count lower (length payload))

@@ -9,7 +9,9 @@ use borrow.Rule.Slice.PartMut.{midOf, putMid}
 use Rattle.packet.specs.declared.Frame.{Frame}
 use Rattle.packet.specs.Frames.{encodeFrame}
 
-pub two-copies : (h p d o l : List ℕ) → o ≡ take (length h) h ++ drop (length h) d → l ≡ take (length p) p ++ drop (length p) (midOf (length h) (length o - length h) o) → putMid (length h) (length o - length h) o l ≡ (h ++ p) ++ drop (length (h ++ p)) d
+pub two-copies : (h p d o l : List ℕ) → o ≡ take (length h) h ++ drop (length h) d
+    → l ≡ take (length p) p ++ drop (length p) (midOf (length h) (length o - length h) o)
+    → putMid (length h) (length o - length h) o l ≡ (h ++ p) ++ drop (length (h ++ p)) d
 two-copies h p d o l eo el =
     let o′ : o ≡ h ++ drop (length h) d = eo ∙ ap (λ (x : List ℕ). x ++ drop (length h) d) (take-length h) in
     let t : take (length h) o ≡ h = ap (take (length h)) o′ ∙ take-append-seam h (drop (length h) d) in

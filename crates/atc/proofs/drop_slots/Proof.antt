@@ -10,7 +10,8 @@ use Rattle.atc.proofs.drop_slots.Statement.{statement}
 use Rattle.atc.proofs.drop_slots.Tie as tie
 
 abbrev Inv-loop : tie.InvT-loop
-Inv-loop stu range slots₀ i₀ slots i = (length slots₀ ≡ 32) × (i ≤ 32) × (slots ≡ mapTo (entryDropped stu range) i slots₀)
+Inv-loop stu range slots₀ i₀ slots i =
+    (length slots₀ ≡ 32) × (i ≤ 32) × (slots ≡ mapTo (entryDropped stu range) i slots₀)
 
 abbrev μ-loop : tie.MeasureT-loop
 μ-loop stu range slots₀ i₀ slots i = 32 - i

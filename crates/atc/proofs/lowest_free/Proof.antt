@@ -10,7 +10,8 @@ use Rattle.atc.proofs.lowest_free.Statement.{statement}
 use Rattle.atc.proofs.lowest_free.Tie as tie
 
 abbrev Inv-loop : tie.InvT-loop
-Inv-loop slots i₀ i = (length slots ≡ 32) × (i ≤ 32) × (firstIndex isFreeSlot slots ≡ i + firstIndex isFreeSlot (drop i slots))
+Inv-loop slots i₀ i =
+    (length slots ≡ 32) × (i ≤ 32) × (firstIndex isFreeSlot slots ≡ i + firstIndex isFreeSlot (drop i slots))
 
 abbrev μ-loop : tie.MeasureT-loop
 μ-loop slots i₀ i = 32 - i

@@ -14,7 +14,8 @@ enum-known-n : tie.Need-enum-known-n
 enum-known-n c = search needs
 
 mul-new-read : tie.Need-mul-new-read
-mul-new-read c = omega (arith, c .before .before .before .before .before .before .before .before .before .before .before .pre)
+mul-new-read c =
+    omega (arith, c .before .before .before .before .before .before .before .before .before .before .before .pre)
 
 new-read-requires : tie.Need-new-read-requires
 new-read-requires c κs = search needs

@@ -13,7 +13,8 @@ lowest-free-requires : tie.Need-lowest-free-requires
 lowest-free-requires c κs = search needs
 
 ask-on-requires : tie.Need-ask-on-requires
-ask-on-requires c κs = few-units _ _ _ (sym (c .before .before .before .before .is-askable .ensures) ∙ c .before .if2 .taken) .1
+ask-on-requires c κs =
+    few-units _ _ _ (sym (c .before .before .before .before .is-askable .ensures) ∙ c .before .if2 .taken) .1
 
 refused-requires : tie.Need-refused-requires
 refused-requires c κs = search needs

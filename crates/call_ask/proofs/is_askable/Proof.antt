@@ -14,7 +14,8 @@ is-below-top-requires c κs = leb-true _ _ (and-both _ _ (sym (c .before .is-uni
 
 returns : tie.Need-returns
 unfolding isAskable
-returns c = and-next _ _ _ (sym (c .before .before .is-unit-count .ensures) ∙ c .before .if1 .taken) (c .is-below-top .ensures)
+returns c =
+    and-next _ _ _ (sym (c .before .before .is-unit-count .ensures) ∙ c .before .if1 .taken) (c .is-below-top .ensures)
 
 returns-2 : tie.Need-returns-2
 unfolding isAskable

@@ -18,7 +18,8 @@ part-from-requires c κs = search needs
 
 returns : tie.Need-returns
 unfolding payloadFor
-returns c = take-case _ _ _ _ (sym (c .before .before .is-payload .ensures) ∙ c .before .if1 .taken) (c .payload .ensures)
+returns c =
+    take-case _ _ _ _ (sym (c .before .before .is-payload .ensures) ∙ c .before .if1 .taken) (c .payload .ensures)
 
 returns-2 : tie.Need-returns-2
 unfolding payloadFor

@@ -8,7 +8,8 @@ use Rattle.listing.proofs.list_all.Statement.{statement}
 use Rattle.listing.proofs.list_all.Tie as tie
 
 abbrev Inv-loop : tie.InvT-loop
-Inv-loop hold₀ block₀ out₀ turns₀ progress₀ hold block out turns progress = (length hold ≡ length hold₀) × (length block ≡ length block₀) × (length out ≡ length out₀)
+Inv-loop hold₀ block₀ out₀ turns₀ progress₀ hold block out turns progress =
+    (length hold ≡ length hold₀) × (length block ≡ length block₀) × (length out ≡ length out₀)
 
 abbrev μ-loop : tie.MeasureT-loop
 μ-loop hold₀ block₀ out₀ turns₀ progress₀ hold block out turns progress = turns

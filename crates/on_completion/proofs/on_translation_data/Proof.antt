@@ -43,11 +43,13 @@ returns-2 c = rw (c .answered .ensures, c .before .free-tag .ensures, ← c .bef
 
 returns-3 : tie.Need-returns-3
 unfolding onTranslationData
-returns-3 c = rw (← c .before .before .before .classify .ensures, c .before .enum-told3 .given .1) (c .take-first .ensures)
+returns-3 c =
+    rw (← c .before .before .before .classify .ensures, c .before .enum-told3 .given .1) (c .take-first .ensures)
 
 returns-4 : tie.Need-returns-4
 unfolding onTranslationData
-returns-4 c = rw (← c .before .before .before .classify .ensures, c .before .enum-told4 .given .1) (c .take-last .ensures)
+returns-4 c =
+    rw (← c .before .before .before .classify .ensures, c .before .enum-told4 .given .1) (c .take-last .ensures)
 
 pub on-translation-data-spec : {M : Type 1} → statement M
 on-translation-data-spec =

@@ -10,7 +10,8 @@ use Rattle.pages.proofs.used_credits.Statement.{statement}
 use Rattle.pages.proofs.used_credits.Tie as tie
 
 abbrev Inv-loop : tie.InvT-loop
-Inv-loop groups sum₀ i₀ sum i = (length groups ≡ 32) × (i ≤ 32) × (sum ≤ 0xFFFF * (32 - i)) × (sum ≡ foldMap _+_ requestsOf (drop i groups))
+Inv-loop groups sum₀ i₀ sum i =
+    (length groups ≡ 32) × (i ≤ 32) × (sum ≤ 0xFFFF * (32 - i)) × (sum ≡ foldMap _+_ requestsOf (drop i groups))
 
 abbrev μ-loop : tie.MeasureT-loop
 μ-loop groups sum₀ i₀ sum i = i

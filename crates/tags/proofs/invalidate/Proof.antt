@@ -12,7 +12,8 @@ use Rattle.tags.proofs.invalidate.Statement.{statement}
 use Rattle.tags.proofs.invalidate.Tie as tie
 
 abbrev Inv-loop : tie.InvT-loop
-Inv-loop range itag tags₀ i₀ tags i = (length tags₀ ≡ 32) × (i ≤ 32) × (tags ≡ mapTo (invalidatedRow range itag) i tags₀)
+Inv-loop range itag tags₀ i₀ tags i =
+    (length tags₀ ≡ 32) × (i ≤ 32) × (tags ≡ mapTo (invalidatedRow range itag) i tags₀)
 
 abbrev μ-loop : tie.MeasureT-loop
 μ-loop range itag tags₀ i₀ tags i = 32 - i

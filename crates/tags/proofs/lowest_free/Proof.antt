@@ -11,7 +11,8 @@ use Rattle.tags.proofs.lowest_free.Statement.{statement}
 use Rattle.tags.proofs.lowest_free.Tie as tie
 
 abbrev Inv-loop : tie.InvT-loop
-Inv-loop tags i₀ i = (length tags ≡ 32) × (i ≤ 32) × (firstIndex isFreeRow tags ≡ i + firstIndex isFreeRow (drop i tags))
+Inv-loop tags i₀ i =
+    (length tags ≡ 32) × (i ≤ 32) × (firstIndex isFreeRow tags ≡ i + firstIndex isFreeRow (drop i tags))
 
 abbrev μ-loop : tie.MeasureT-loop
 μ-loop tags i₀ i = 32 - i

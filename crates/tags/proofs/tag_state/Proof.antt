@@ -4,8 +4,8 @@ use borrow.Author.Needs.{needs}
 use Rattle.tags.proofs.tag_state.Statement.{statement}
 use Rattle.tags.proofs.tag_state.Tie as tie
 
-cast-i : tie.Need-cast-i
-cast-i c = search needs
+cast-at : tie.Need-cast-at
+cast-at c = search needs
 
 mul-p : tie.Need-mul-p
 mul-p c = search needs
@@ -22,4 +22,4 @@ unfolding tagState
 returns-2 c = search cases depth 12
 
 pub tag-state-spec : {M : Type 1} → statement M
-tag-state-spec = tie.close (tie.spec cast-i mul-p array-copy-out-p returns returns-2)
+tag-state-spec = tie.close (tie.spec cast-at mul-p array-copy-out-p returns returns-2)

@@ -10,7 +10,8 @@ use Rattle.translations.proofs.apply.Statement.{statement}
 use Rattle.translations.proofs.apply.Tie as tie
 
 abbrev Inv-loop : tie.InvT-loop
-Inv-loop payload range stu e before n next₀ j₀ next j = (j ≤ n) × (n ≤ 16) × (next ≡ iterate (updatedAt range stu e before payload) j next₀)
+Inv-loop payload range stu e before n next₀ j₀ next j =
+    (j ≤ n) × (n ≤ 16) × (next ≡ iterate (updatedAt range stu e before payload) j next₀)
 
 abbrev μ-loop : tie.MeasureT-loop
 μ-loop payload range stu e before n next₀ j₀ next j = n - j

@@ -17,7 +17,8 @@ sub-k c = let a = c .before .before .before .args in rw (c .region-number2 .ensu
 
 returns : tie.Need-returns
 unfolding updatedIfCovered
-returns c = rw (← c .before .region-number2 .ensures, ← c .before .before .region-number .ensures) (search cases depth 12)
+returns c =
+    rw (← c .before .region-number2 .ensures, ← c .before .before .region-number .ensures) (search cases depth 12)
 
 translation-at-requires : tie.Need-translation-at-requires
 translation-at-requires c κs = search needs

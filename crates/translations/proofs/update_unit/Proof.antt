@@ -23,7 +23,8 @@ returns c = take-case _ _ _ _ (sym (c .before .before .before .allows-access .en
 
 returns-2 : tie.Need-returns-2
 unfolding unitUpdated
-returns-2 c = skip-case _ _ _ _ (sym (c .before .before .allows-access .ensures) ∙ c .before .if1 .left) (c .drop-unit .ensures)
+returns-2 c =
+    skip-case _ _ _ _ (sym (c .before .before .allows-access .ensures) ∙ c .before .if1 .left) (c .drop-unit .ensures)
 
 pub update-unit-spec : {M : Type 1} → statement M
 update-unit-spec =

@@ -17,7 +17,8 @@ most-requires : tie.Need-most-requires Inv-loop μ-loop
 most-requires c κs = search needs
 
 loop-holds : tie.Need-loop-holds Inv-loop μ-loop
-loop-holds c = (omega arith, none-spelled (c .before .before .args .cs .now) (c .before .before .args .bytes .now), refl)
+loop-holds c =
+    (omega arith, none-spelled (c .before .before .args .cs .now) (c .before .before .args .bytes .now), refl)
 
 mul-value : tie.Need-mul-value Inv-loop μ-loop
 mul-value c = omega arith

@@ -31,7 +31,8 @@ array-share-prefix-line : tie.Need-array-share-prefix-line
 array-share-prefix-line c = search needs
 
 slice-aggregate-read-line : tie.Need-slice-aggregate-read-line
-slice-aggregate-read-line c = let k = c .before .before .keep2 in sym (length-take-le (k .result) (k .last .0) (omega arith))
+slice-aggregate-read-line c =
+    let k = c .before .before .keep2 in sym (length-take-le (k .result) (k .last .0) (omega arith))
 
 read-line-requires : tie.Need-read-line-requires
 read-line-requires c κs = search needs

@@ -38,7 +38,8 @@ returns c =
     )
 
 slice-aggregate-held-line : tie.Need-slice-aggregate-held-line
-slice-aggregate-held-line c = let f = c .before .before .before .line-end in sym (length-take-le (f .result) _ (f .ensures .0))
+slice-aggregate-held-line c =
+    let f = c .before .before .before .line-end in sym (length-take-le (f .result) _ (f .ensures .0))
 
 held-line-requires : tie.Need-held-line-requires
 held-line-requires c κs = search needs

@@ -46,7 +46,8 @@ part-rest-end : tie.Need-part-rest-end Inv-loop μ-loop
 part-rest-end c = omega arith
 
 run-requires : tie.Need-run-requires Inv-loop μ-loop
-run-requires c κs = (c .before .before .before .before .loop .inv .5, c .before .before .before .before .before .hex-values .ensures)
+run-requires c κs =
+    (c .before .before .before .before .loop .inv .5, c .before .before .before .before .before .hex-values .ensures)
 
 mul-line-end : tie.Need-mul-line-end Inv-loop μ-loop
 mul-line-end c = omega (arith, c .run .ensures)

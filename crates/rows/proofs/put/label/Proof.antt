@@ -30,13 +30,15 @@ same-length-2 : tie.Need-same-length-2
 same-length-2 c = search needs
 
 returns-2 : tie.Need-returns-2
-returns-2 c = rw (c .before .before .before .before .before .l2 .given .1) (c .before .before .vector .ensures, search needs)
+returns-2 c =
+    rw (c .before .before .before .before .before .l2 .given .1) (c .before .before .vector .ensures, search needs)
 
 same-length-3 : tie.Need-same-length-3
 same-length-3 c = search needs
 
 returns-3 : tie.Need-returns-3
-returns-3 c = rw (c .before .before .before .before .enum-told .given .1) (c .before .before .byte .ensures, search needs)
+returns-3 c =
+    rw (c .before .before .before .before .enum-told .given .1) (c .before .before .byte .ensures, search needs)
 
 pub label-spec : {M : Type 1} → statement M
 label-spec =

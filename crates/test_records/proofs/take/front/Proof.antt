@@ -6,7 +6,8 @@ use Rattle.test_records.proofs.take.front.Statement.{statement}
 use Rattle.test_records.proofs.take.front.Tie as tie
 
 slice-aggregate-result : tie.Need-slice-aggregate-result
-slice-aggregate-result c = sym (length-take-le (c .before .before .args .n) (now (c .before .before .args .r)) (c .before .if1 .taken))
+slice-aggregate-result c =
+    sym (length-take-le (c .before .before .args .n) (now (c .before .before .args .r)) (c .before .if1 .taken))
 
 slice-aggregate-result-2 : tie.Need-slice-aggregate-result-2
 slice-aggregate-result-2 c = search needs

@@ -1,6 +1,6 @@
-"""Reads code of Rattle: functions, types and constants of a crate, and the ways through a function.
+"""Parses Rattle code: functions, types and constants of a crate, and the control-flow paths of a function.
 
-What contracts say is passed over, but for simple bounds on arguments (`requires`)."""
+Contracts are skipped, except simple bounds on arguments (`requires`)."""
 import glob
 import os
 import re
@@ -15,7 +15,7 @@ ESCAPES = {"n": 10, "t": 9, "r": 13, "0": 0, "\\": 92, "'": 39, '"': 34}
 
 
 class Unknown(Exception):
-    """A form that this does not read or run."""
+    """A form that this cannot parse or run."""
 
 
 class Node:
@@ -26,7 +26,7 @@ class Node:
 
 
 class Fn:
-    """A function: `ends` are the ways to its ends, `asks` the bounds that it requires, `plain` what `rattle_run` finds out."""
+    """A function: `ends` are the paths to its returns, `asks` the bounds that it requires, `plain` is set by `rattle_run`."""
 
     def __init__(self, crate, name, params, result, body, text):
         self.crate, self.name, self.params, self.result, self.body, self.text = crate, name, params, result, body, text
@@ -42,7 +42,9 @@ class Fn:
 
 
 def trails(node):
-    """The ways through a piece of code in the order in which the prover numbers them: at each, which branches it takes outside of loops, and whether the function ends on it."""
+    """The paths through a piece of code, in the order in which the prover numbers them.
+
+    Of each path: which branches it takes outside of loops, and whether the function returns on it."""
     kind, parts = node.kind, node.parts
     if kind == "return":
         return [((), True)]
@@ -60,7 +62,7 @@ def trails(node):
 
 
 def in_turn(stretches):
-    """The ways through pieces of code that follow each other."""
+    """The paths through pieces of code that follow each other."""
     found = [((), False)]
     for stretch in stretches:
         found = [way for trail, over in found for way in ([(trail, True)] if over else [(trail + more, ends) for more, ends in stretch])]
@@ -68,7 +70,7 @@ def in_turn(stretches):
 
 
 def branches(bodies):
-    """The ways through pieces of code of which one is taken."""
+    """The paths through pieces of code of which one is taken."""
     return [((k,) + trail, over) for k, body in enumerate(bodies) for trail, over in (trails(body) if body else [((), False)])]
 
 

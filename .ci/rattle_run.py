@@ -1,8 +1,9 @@
-"""Runs functions of Rattle on drawn arguments, to see whether an edit changes what a function does, and at which of its returns.
+"""Runs Rattle functions on random arguments, to see whether an edit changes the result of a function, and at which return.
 
-Functions of the same crate are run, and of other crates those on plain values (no rows, no loops). All others are unknown functions: the same arguments give the same result, drawn by its type.
-Numbers are drawn from those that stand in the code, their neighbours, small ones and any. This is a test and no proof: it can miss a difference, and it can find one that the contracts of other
-crates exclude."""
+Functions of the same crate are run, and those of other crates on plain values (no arrays, no loops). All others are
+unknown functions: the same arguments give the same result, drawn at random by its type. Numbers are drawn from those in
+the code, their neighbours, small numbers and any numbers. This is a test, not a proof: it can miss a difference, and it
+can find one that the contracts of other crates exclude."""
 import hashlib
 import re
 
@@ -463,7 +464,9 @@ def pool_of(crate, *fns):
 
 
 def differences(crates, edited, right, wrong, least, most, enough):
-    """Where the wrong function ends with another outcome than the right one, over drawings of `most` steps in all: after `least` it stops as soon as `enough` says so of the places found."""
+    """The returns at which the wrong function has another outcome than the right one, over random runs of `most` steps in all.
+
+    After `least` steps it stops as soon as `enough` holds for the returns found."""
     found, with_edit = set(), dict(crates, **{edited.name: edited})
     pool = pool_of(edited, right, wrong)
     seed = steps = 0

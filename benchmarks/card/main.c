@@ -1,5 +1,5 @@
-// main CALLS RUNS: replays the mix on the proved card and on the model in C, holds their sums together,
-// and prints the times of both.
+// main CALLS RUNS: replays the mix on the proved card and on the model in C, compares
+// their sums, and prints both times.
 #include <time.h>
 #include "make.h"
 
@@ -25,7 +25,7 @@ static uint64_t run(replay *r, const struct script *s, bool checked) {
     return r(s->numbers, 3 * s->calls, s->pool, s->pool_size, out, OUT, checked);
 }
 
-// The processor's seconds, so that other work on the machine counts less.
+// Processor time, so that other work on the machine counts less.
 static double seconds(replay *r, const struct script *s) {
     struct timespec from, to;
     clock_gettime(CLOCK_PROCESS_CPUTIME_ID, &from);
@@ -39,7 +39,7 @@ static double least(replay *r, const struct script *s, double before) {
     return before == 0 || t < before ? t : before;
 }
 
-// The sides take turns, so that a slow moment of the machine falls on all of them.
+// The sides take turns, so that a slow moment of the machine affects all of them.
 static void measure(const struct script *s, int runs) {
     for (int i = 0; i < SIDES; i++) sides[i].seconds = 0;
     for (int n = 0; n < runs; n++)

@@ -1,12 +1,12 @@
-// Makes scripts. The model runs along, so that completions and responses are for what is open;
-// what the calls answer is counted.
+// Makes scripts. The model runs too, so that completions and responses fit outstanding requests. The
+// answers of the calls are counted.
 #include <stdio.h>
 #include <stdlib.h>
 #include "calls.h"
 
 enum { OUT = 160, PLACES = 64 };
 
-// What the mix has to reach, beside every answer and refusal.
+// Events that the mix has to contain, besides every answer and refusal.
 enum event { READ_HITS, WRITE_HITS, ONE_PACKET, SECOND_PACKETS, INVALIDATIONS, READS_NOTED, DRAINS_SENT, DRAINS_HELD, RESPONSES, EVENTS };
 
 struct maker {
@@ -18,7 +18,7 @@ struct maker {
     uint8_t out[OUT];
 };
 
-// Draws stand only where C fixes their order, so that every compiler makes the same script.
+// Random draws occur only where C fixes their order, so that every compiler makes the same script.
 static unsigned pick(struct maker *m, unsigned n) {
     m->seed = m->seed * 6364136223846793005 + 1442695040888963407;
     return (m->seed >> 33) % n;
@@ -41,7 +41,7 @@ static void begin(struct maker *m, size_t calls) {
     reset(&m->f, 0, 0, 64);
 }
 
-// The tag that a completion is for was open for a TR, and a first packet of two had come.
+// The tag of a completion has an outstanding TR that has received the first of two packets.
 static bool is_second(const struct function *f, const struct step *s) {
     return s->call == RECEIVE && s->load > 12 && s->bytes[0] == 0x4A && s->bytes[10] < 32 && f->tags[s->bytes[10]].use == ASKED &&
            f->tags[s->bytes[10]].ask.due;
@@ -125,7 +125,7 @@ static uint64_t coded(uint64_t address, unsigned size) {
     return region(address, size) | (region(below(size - 1), 12)) | 0x800;
 }
 
-// Units that are asked for: three quarters of them below 4 GiB.
+// Units to request: three quarters of them are below 4 GiB.
 static uint64_t place(struct maker *m) {
     unsigned k = pick(m, PLACES);
     uint64_t base = k % 4 ? 0x200000 : 0x123456000000;
@@ -139,7 +139,7 @@ static uint64_t translation(struct maker *m, unsigned size) {
     return coded(to, size) | right | untranslated << 2 | no_snoop << 10;
 }
 
-// A tag that is open for this, from a place picked; 32 where none is.
+// A tag in this state, searched from a random one on; 32 if there is none.
 static unsigned open_tag(struct maker *m, int use) {
     unsigned from = pick(m, 32);
     for (unsigned i = 0; i < 32; i++)
@@ -163,7 +163,7 @@ static void make_ask(struct maker *m) {
     emit(m, ASK, nowrite, units, place(m) + offset, OUT, 0, 0);
 }
 
-// A reply in one packet, or the first of two; or, where one has come, the second.
+// A reply in one packet, or the first of two; or the second, if the first has come.
 static void make_reply(struct maker *m, unsigned tag) {
     const struct tag *t = &m->f.tags[tag];
     uint8_t payload[128];
@@ -301,7 +301,8 @@ static void make_mix(struct maker *m, size_t calls) {
     m->script.calls = calls;
 }
 
-// Scripts of one kind of call or of a pair that ends as it began, on a card with a full cache and some open tags.
+// Scripts of one kind of call, or of a pair of calls that restores the state, on a card with a
+// full cache and some used tags.
 
 enum kind { WRITES, READS, READ_PAIRS, ASK_PAIRS, ASK8_PAIRS, INV_PAIRS, PAGE_PAIRS, DRAINS, SWITCHES, NOT_OPENS, KINDS };
 

@@ -1,4 +1,4 @@
-// The Function of document 01 in C, changed through a pointer: what the proved card is measured beside.
+// The Function of document 01 in C, with its state behind a pointer, for comparison with the proved card.
 #include <stdbool.h>
 #include <stddef.h>
 #include <stdint.h>
@@ -15,7 +15,7 @@ enum word {
     PAYLOAD_LAST, READ_FAILED
 };
 
-// What a call answers; `value` is a refusal's number, a tag or a count of ITags.
+// The answer of a call; `value` is a refusal's number, a tag or a count of ITags.
 struct answer {
     uint16_t word, value;
     uint32_t sent;              // the length of the packet that was sent, or 0
@@ -27,7 +27,7 @@ struct entry {
     bool used, r, w, n, u;
 };
 
-// What a tag is open for. The last three of a TR: after a first packet of two, else 0.
+// The state of a tag. The last three fields of a TR are set after the first of two packets, otherwise 0.
 struct tag {
     enum { FREE, ASKED, READING } use;
     uint64_t address;
@@ -239,7 +239,7 @@ static struct answer page_request(struct function *f, uint64_t page, unsigned in
     return a;
 }
 
-// Receiving: 0, or the refusal of bytes that are no packet.
+// Receiving: 0, or the refusal of bytes that are not a packet.
 static unsigned misread(const uint8_t *b, size_t n) {
     if (n < 12 || n > 144) return LENGTH;
     unsigned words = (b[2] & 3) << 8 | b[3], dwords = words ? words : 1024;
@@ -275,7 +275,7 @@ static unsigned misread(const uint8_t *b, size_t n) {
     return good ? 0 : FORBIDDEN;
 }
 
-// What a completion with data is to its TR by its counts and Lower Address.
+// The class of a completion with data for its TR, by its counts and Lower Address.
 enum part { MISFITS, ENDS_OFF, FIRST, LAST };
 
 static enum part part_of(const struct tag *t, unsigned rcb, unsigned count, unsigned lower, size_t bytes) {
@@ -287,7 +287,7 @@ static enum part part_of(const struct tag *t, unsigned rcb, unsigned count, unsi
     return on_boundary ? FIRST : MISFITS;
 }
 
-// A fill takes the slot of its unit, else the lowest free one, else the one under the hand.
+// A fill replaces the entry of its unit. Without one it takes the lowest slot that is free, or the one that the hand names.
 static void fill(struct function *f, struct entry e) {
     struct entry *slot = find(f, e.unit);
     for (int i = 0; !slot && i < 32; i++)
@@ -296,7 +296,7 @@ static void fill(struct function *f, struct entry e) {
     *slot = e;
 }
 
-// The units of a TR's range that translations number `came` and the following ones cover.
+// The units of a TR's range that the translations from number `came` on cover.
 static void apply(struct function *f, uint64_t first, uint64_t last, unsigned size, uint64_t came, const uint8_t *payload,
                   size_t bytes) {
     uint64_t step = (uint64_t)1 << unit_of(f);

@@ -1,5 +1,5 @@
-// A script replayed on the model. This file is built once for each level of the optimizer, with REPLAY and
-// NOTHING as its functions' names.
+// Replays a script on the model. This file is built once for each optimization level, with REPLAY and NOTHING as the
+// names of its functions.
 #include "calls.h"
 
 static uint64_t mix(uint64_t sum, uint32_t x) { return (sum & 0xFFFFFFFF) * 16777619 + x; }
@@ -9,7 +9,7 @@ static uint64_t mix_bytes(uint64_t sum, const uint8_t *b, size_t n) {
     return sum;
 }
 
-// The digest of the state's bytes, as crates/test_snapshot lays them out: each number by its width, high byte first.
+// The digest of the state's bytes in the layout of crates/test_snapshot: each number in its width, high byte first.
 static uint64_t digest(uint64_t h, uint64_t number, int width) {
     while (width-- > 0) h = (h * 257 + (number >> 8 * width & 255) + 1) % 4294967291;
     return h;
@@ -67,7 +67,7 @@ uint64_t REPLAY(const uint64_t *numbers, size_t count, const uint8_t *pool, size
     return mix(mix_bytes(sum, out, out_size), state_digest(&f));
 }
 
-// The script is taken apart and nothing is called.
+// Decodes the script and calls nothing.
 uint64_t NOTHING(const uint64_t *numbers, size_t count, const uint8_t *pool, size_t pool_size, uint8_t *out, size_t out_size,
                  bool checked) {
     uint64_t sum = 0;

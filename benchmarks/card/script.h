@@ -1,5 +1,5 @@
-// A script of calls: three numbers each, and a part of a pool of bytes, which is a packet that is received or an
-// access's payload. The proved side, crates/bench_card, takes them apart in the same way.
+// A script of calls: three numbers each, and a part of a pool of bytes, which is a received packet or the payload of an
+// access. The proved side, crates/bench_card, decodes them in the same way.
 #include <stdbool.h>
 #include <stddef.h>
 #include <stdint.h>
@@ -27,7 +27,7 @@ static inline struct step step_at(const uint64_t *numbers, const uint8_t *pool, 
                          numbers[3 * i + 1], pool + numbers[3 * i + 2]};
 }
 
-// A replay: the script's numbers and pool, a buffer that packets are sent into, and whether every byte of it goes into
-// the sum that is returned, after each call.
+// A replay: the numbers and the pool of the script, a buffer for the packets sent, and whether every byte of the buffer
+// goes into the returned sum after each call.
 typedef uint64_t replay(const uint64_t *numbers, size_t count, const uint8_t *pool, size_t pool_size, uint8_t *out,
                         size_t out_size, bool checked);

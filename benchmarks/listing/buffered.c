@@ -1,4 +1,4 @@
-// The listing with buffers and digits of its own: read, memchr and write.
+// The listing in C with its own buffers and digits: read, memchr and write.
 #include <string.h>
 #include <unistd.h>
 #include "reading.h"

@@ -1,5 +1,5 @@
 #!/usr/bin/env python3
-"""make_lines.py COUNT: so many lines of packets in hex on standard output, all seven kinds, some of them bad; the same lines each time."""
+"""make_lines.py COUNT: prints COUNT lines of packets in hex, of all seven kinds, some of them bad; always the same lines."""
 import sys
 
 state = 20261115

@@ -1,4 +1,4 @@
-// The listing as one writes it in C first: getline and printf.
+// The listing in plain C: getline and printf.
 #include <stdio.h>
 #include <stdlib.h>
 #include "reading.h"

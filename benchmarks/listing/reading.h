@@ -1,4 +1,4 @@
-// What a line says, for both C programs: the rules of document 01 written out by hand.
+// Reads a line, for both C programs: the rules of document 01, written by hand.
 #include <stddef.h>
 #include <stdint.h>
 

@@ -1,4 +1,4 @@
--- What every cache promises to the layers above, as one record; and that this cache keeps it.
+-- The laws of a cache that the layers above use, as one record; and a proof that this cache satisfies them.
 use mathlib.Core.Path.{_≡_, refl, sym, ap, _∙_}
 use mathlib.Core.Bool.{true, false, cond}
 use mathlib.Core.List.{List}
@@ -22,36 +22,35 @@ use Rattle.atc.specs.declared.Found.{Found}
 use Rattle.atc.specs.declared.Found.the-variants.{Hit, Miss}
 use Rattle.atc.specs.Cache.{noEntry, blank, emptied, isEntryOf, isFreeSlot, slotOf, freeSlot, slotAt, entryAt, found, withSlot, filledWith, unitDropped, entryOverlaps, entryDropped, rangeDropped, SoundCache}
 
--- A cache of any make is a type C with these operations. An entry stands at a number, and
--- `noEntry` where there is none.
+-- A cache is a type C with these operations. Each number has an entry, or `noEntry`.
 pub record CacheLaws (C : Type 0) (Sound : C → Type 0) (at : C → ℕ → Entry) (find : C → ℕ → Found) (new : C) (empty : C → C) (fill : Entry → C → C) (drop : ℕ → C → C) (dropRange : ℕ → Range → C → C) : Type 0 where
   -- a unit has at most one entry
   pub single : (c : C) → Sound c → (i j : ℕ) → at c i .used ≡ true → at c j .used ≡ true → at c i .unit ≡ at c j .unit
       → i ≡ j
-  -- what is found is an entry of the unit, and is held; an entry that is held is found by its unit
+  -- an entry that is found is an entry of the unit, and is in the cache; an entry in the cache is found by its unit
   pub found-is : (c : C) → Sound c → (unit : ℕ) (e : Entry) → find c unit ≡ Hit e
       → (e .used ≡ true) × (e .unit ≡ unit) × ((i : ℕ) × (at c i ≡ e))
   pub found-only : (c : C) → Sound c → (i : ℕ) → at c i .used ≡ true → find c (at c i .unit) ≡ Hit (at c i)
-  -- a new cache holds nothing
+  -- a new cache is empty
   pub new-sound : Sound new
   pub new-entry : (i : ℕ) → at new i ≡ noEntry
-  -- nor does an emptied one
+  -- and so is an emptied one
   pub empty-sound : (c : C) → Sound (empty c)
   pub empty-entry : (c : C) (i : ℕ) → at (empty c) i ≡ noEntry
-  -- a fill: nothing comes in but the entry, which is found; any other unit keeps its entry, or loses it
+  -- a fill: only the new entry is added, and it is found; any other unit keeps its entry or loses it
   pub fill-sound : (e : Entry) (c : C) → Sound c → Sound (fill e c)
   pub fill-entry : (e : Entry) (c : C) → Sound c → (i : ℕ) → (at (fill e c) i ≡ at c i) ⊎ (at (fill e c) i ≡ e)
   pub fill-found : (e : Entry) (c : C) → Sound c → e .used ≡ true → find (fill e c) (e .unit) ≡ Hit e
   pub fill-other : (e : Entry) (c : C) → Sound c → (unit : ℕ) → (e .unit ≡ unit → ⊥)
       → (find (fill e c) unit ≡ find c unit) ⊎ (find (fill e c) unit ≡ Miss)
-  -- the entry of a unit deleted: it is not found, and any other is as before
+  -- the entry of a unit is deleted: it is not found, and any other is unchanged
   pub drop-sound : (unit : ℕ) (c : C) → Sound c → Sound (drop unit c)
   pub drop-entry : (unit : ℕ) (c : C) → Sound c → (i : ℕ)
       → (at (drop unit c) i ≡ at c i) ⊎ (at (drop unit c) i ≡ noEntry)
   pub drop-found : (unit : ℕ) (c : C) → Sound c → find (drop unit c) unit ≡ Miss
   pub drop-other : (unit : ℕ) (c : C) → Sound c → (other : ℕ) → (unit ≡ other → ⊥)
       → find (drop unit c) other ≡ find c other
-  -- a range deleted: just the entries go whose unit overlaps it
+  -- a range is deleted: exactly the entries whose unit overlaps it are deleted
   pub range-sound : (stu : ℕ) (range : Range) (c : C) → Sound c → Sound (dropRange stu range c)
   pub range-entry : (stu : ℕ) (range : Range) (c : C) → Sound c → (i : ℕ)
       → at (dropRange stu range c) i ≡ entryDropped stu range (at c i)
@@ -71,7 +70,7 @@ used-lt slots i u = go (decLe (length slots) i)
 of-unit : (unit : ℕ) (e : Entry) → isEntryOf unit e ≡ true → (e .used ≡ true) × (e .unit ≡ unit)
 of-unit unit e h = let t = and-both (e .used) (eqb (e .unit) unit) h in (t .0, eqb-true (e .unit) unit (t .1))
 
--- what only loses entries stays sound
+-- a cache that only loses entries stays sound
 fewer : (c d : Cache) → length (d .slots) ≡ 32 → ((i : ℕ) → (entryAt d i ≡ entryAt c i) ⊎ (entryAt d i ≡ noEntry))
     → SoundCache c → SoundCache d
 fewer c d all f s = record { slots = all; single = λ i j u v q. s .single i j (rw (kept i u) at u) (rw (kept j v) at v) (rw (kept i u, kept j v) at q) }
@@ -79,7 +78,7 @@ fewer c d all f s = record { slots = all; single = λ i j u v q. s .single i j (
     kept : (k : ℕ) → entryAt d k .used ≡ true → entryAt d k ≡ entryAt c k
     kept k h = ⊎-elim (λ a. a) (λ a. absurd (never-both _ h (rw a))) (f k)
 
--- ---- what is found
+-- ---- finding an entry
 
 module _ (c : Cache) (s : SoundCache c) (unit : ℕ) where
   abbrev own : ℕ
@@ -113,12 +112,12 @@ module _ (c : Cache) (s : SoundCache c) (unit : ℕ) where
   unfolding found
   found-at i u q = rw (lt-ltb own 32 (slot-lt i u q), slot-only i u q)
 
-  -- where no slot holds an entry of the unit none is found,
+  -- if no slot holds an entry of the unit, none is found,
   none-found : ((i : ℕ) → entryAt c i .used ≡ true → entryAt c i .unit ≡ unit → ⊥) → found c unit ≡ Miss
   unfolding found
   none-found f = rw (is-false (ltb own 32) (λ p. let h = slot-is (ltb-true _ _ p) in f own (h .0) (h .1)))
 
-  -- and where none is found no slot holds one
+  -- and if none is found, no slot holds one
   found-none : found c unit ≡ Miss → (i : ℕ) → entryAt c i .used ≡ true → entryAt c i .unit ≡ unit → ⊥
   found-none f i u q = let m : Hit (entryAt c i) ≡ Miss = sym (found-at i u q) ∙ f in impossible cc
 
@@ -127,14 +126,14 @@ module _ (c : Cache) (s : SoundCache c) (unit : ℕ) where
   unfolding found
   same-found d q f = rw q (byCases (ltb own 32) (λ p. rw p (ap Hit (f (ltb-true _ _ p)))) (λ p. rw p))
 
-  -- a store where no entry of the unit was or will be is not seen
+  -- a store to a slot that held no entry of the unit, of an entry of another unit, does not change what is found
   same-put : (k : ℕ) (e : Entry) (hand : ℕ) → isEntryOf unit (entryAt c k) ≡ false → isEntryOf unit e ≡ false
       → found (withSlot c k e hand) unit ≡ found c unit
   same-put k e hand f g =
       same-found (withSlot c k e hand) (first-other (isEntryOf unit) (c .slots) k e noEntry f g)
       (λ l. ⊎-elim (λ q. q) (λ q. absurd (never-both _ (rw (q .0) at (slot-holds l)) f)) (set-or (c .slots) k own e noEntry))
 
--- ---- with no entry
+-- ---- the empty cache
 
 free-all : (n i : ℕ) → slotAt (replicate n noEntry) i ≡ noEntry
 free-all zero i = refl
@@ -144,7 +143,7 @@ free-all (suc n) (suc i) = free-all n i
 bare-sound : (hand : ℕ) → SoundCache (record { hand = hand; slots = replicate 32 noEntry })
 bare-sound hand = record { slots = refl; single = λ i j u v q. absurd (never-both _ u (rw (free-all 32 i))) }
 
--- ---- filled
+-- ---- a fill
 
 abbrev free : Cache → ℕ
 free c = freeSlot (c .slots)
@@ -154,7 +153,7 @@ abbrev place : Entry → Cache → ℕ
 place e c = cond (ltb (slotOf (c .slots) (e .unit)) 32) (slotOf (c .slots) (e .unit)) (cond (ltb (free c) 32) (free c) (c .hand % 32))
 
 module _ (e : Entry) (c : Cache) where
-  -- what holds of each of its three outcomes holds of a fill and its slot
+  -- what holds in each of the three cases holds for a fill and its slot
   by-place : (P : Cache → ℕ → Type 0)
       → (slotOf (c .slots) (e .unit) < 32 → P (withSlot c (slotOf (c .slots) (e .unit)) e (c .hand)) (slotOf (c .slots) (e .unit)))
       → (free c < 32 → P (withSlot c (free c) e (c .hand)) (free c))
@@ -168,7 +167,7 @@ module _ (e : Entry) (c : Cache) where
       (λ q. rw (p, q) (g (ltb-true _ _ q)))
       (λ q. rw (p, q) (h (ltb-false _ _ p) (ltb-false _ _ q))))
 
-  -- it is one of the 32,
+  -- the slot is one of the 32,
   place-lt : place e c < 32
   place-lt = by-place (λ d k. k < 32) (λ l. l) (λ l. l) (λ m n. omega arith)
 
@@ -176,7 +175,7 @@ module _ (e : Entry) (c : Cache) where
   fill-sets : filledWith e c ≡ withSlot c (place e c) e (filledWith e c .hand)
   fill-sets = by-place (λ d k. d ≡ withSlot c k e (d .hand)) (λ l. refl) (λ l. refl) (λ m n. refl)
 
-  -- each slot holds what it held, or is that one and holds the entry
+  -- each slot is unchanged, or is the filled one and holds the entry
   fill-slot : (i : ℕ)
       → (entryAt (filledWith e c) i ≡ entryAt c i) ⊎ ((i ≡ place e c) × (entryAt (filledWith e c) i ≡ e))
   fill-slot i = rw fill-sets (set-or (c .slots) (place e c) i e noEntry)
@@ -185,7 +184,7 @@ module _ (e : Entry) (c : Cache) (s : SoundCache c) where
   free-is : free c < 32 → entryAt c (free c) .used ≡ false
   free-is l = not-true _ (first-holds isFreeSlot (c .slots) noEntry (rw (s .slots) l))
 
-  -- where the unit has an entry, that is what is replaced
+  -- if the unit has an entry, that entry is replaced
   fill-own : (i : ℕ) → entryAt c i .used ≡ true → entryAt c i .unit ≡ e .unit → place e c ≡ i
   fill-own i u q =
       rw (lt-ltb (slotOf (c .slots) (e .unit)) 32 (slot-lt c s (e .unit) i u q)) (slot-only c s (e .unit) i u q)
@@ -213,14 +212,14 @@ module _ (e : Entry) (c : Cache) (s : SoundCache c) where
   fill-found u =
       found-at (filledWith e c) fill-sound (e .unit) (place e c) (rw at-place u) (rw at-place) ∙ ap Hit at-place
 
-  -- a unit keeps its entry unless it stood in the slot that is set,
+  -- a unit keeps its entry unless the entry was in the filled slot,
   fill-spared : (unit : ℕ) → (e .unit ≡ unit → ⊥) → isEntryOf unit (entryAt c (place e c)) ≡ false
       → found (filledWith e c) unit ≡ found c unit
   fill-spared unit f g =
       ap (λ (d : Cache). found d unit) (fill-sets e c)
       ∙ same-put c s unit (place e c) e (filledWith e c .hand) g (is-false (isEntryOf unit e) (λ h. f (of-unit unit e h .1)))
 
-  -- and loses it then
+  -- in which case it loses the entry
   fill-other : (unit : ℕ) → (e .unit ≡ unit → ⊥)
       → (found (filledWith e c) unit ≡ found c unit) ⊎ (found (filledWith e c) unit ≡ Miss)
   fill-other unit f =
@@ -238,7 +237,7 @@ module _ (e : Entry) (c : Cache) (s : SoundCache c) where
 
   -- ---- the hand of this cache
 
-  -- no unit but the filled one is touched where the hand stays
+  -- if the hand stays, only the filled unit changes
   pub fill-spares : filledWith e c .hand ≡ c .hand → (unit : ℕ) → (e .unit ≡ unit → ⊥)
       → found (filledWith e c) unit ≡ found c unit
   fill-spares stays unit f =
@@ -250,8 +249,9 @@ module _ (e : Entry) (c : Cache) (s : SoundCache c) where
       (λ m n r g. omega arith)
       stays h))
 
-  -- it stays, or the unit had no entry and no slot was free
-  pub fill-hand : (filledWith e c .hand ≡ c .hand) ⊎ ((found c (e .unit) ≡ Miss) × ((i : ℕ) → i < 32 → entryAt c i .used ≡ true))
+  -- the hand stays, or the unit had no entry and no slot was free
+  pub fill-hand : (filledWith e c .hand ≡ c .hand)
+      ⊎ ((found c (e .unit) ≡ Miss) × ((i : ℕ) → i < 32 → entryAt c i .used ≡ true))
   fill-hand =
       by-place e c (λ d k. (d .hand ≡ c .hand) ⊎ ((found c (e .unit) ≡ Miss) × ((i : ℕ) → i < 32 → entryAt c i .used ≡ true)))
       (λ l. inl refl)
@@ -261,7 +261,7 @@ module _ (e : Entry) (c : Cache) (s : SoundCache c) where
       full : 32 ≤ free c → (i : ℕ) → i < 32 → entryAt c i .used ≡ true
       full n i l = byCases (entryAt c i .used) (λ t. t) (λ t. absurd (omega (arith, first-least isFreeSlot (c .slots) noEntry i (rw t))))
 
-  -- then the slot that the hand names is set, and the hand steps
+  -- in that case the slot of the hand is filled, and the hand steps
   pub fill-full : found c (e .unit) ≡ Miss → ((i : ℕ) → i < 32 → entryAt c i .used ≡ true)
       → filledWith e c ≡ withSlot c (c .hand % 32) e ((c .hand + 1) % 2 ^ 32)
   fill-full m f =
@@ -270,7 +270,7 @@ module _ (e : Entry) (c : Cache) (s : SoundCache c) where
       (λ l. absurd (never-both _ (f (free c) l) (free-is l)))
       (λ m n. refl)
 
--- ---- the entry of a unit deleted
+-- ---- deleting the entry of a unit
 
 module _ (unit : ℕ) (c : Cache) (s : SoundCache c) where
   drop-sets : unitDropped unit c ≡ withSlot c (slotOf (c .slots) unit) noEntry (c .hand)
@@ -309,7 +309,7 @@ module _ (unit : ℕ) (c : Cache) (s : SoundCache c) where
       (λ h. let o = of-unit other x h in f (sym (slot-is c s unit (rw (s .slots) at (used-lt (c .slots) k (o .0))) .1) ∙ o .1)))
       refl
 
--- ---- every entry that overlaps a range deleted
+-- ---- deleting every entry that overlaps a range
 
 module _ (stu : ℕ) (range : Range) (c : Cache) where
   range-entry : (i : ℕ) → entryAt (rangeDropped stu range c) i ≡ entryDropped stu range (entryAt c i)

@@ -13,19 +13,19 @@ use Rattle.atc.specs.declared.Cache.{Cache}
 use Rattle.atc.specs.declared.Found.{Found}
 use Rattle.atc.specs.declared.Found.the-variants.{Hit, Miss}
 
--- what a free slot holds
+-- the content of a free slot
 abbrev pub noEntry : Entry
 noEntry = record { used = false; r = false; w = false; n = false; u = false; unit = 0; to = 0 }
 
--- 32 free slots, and the hand at the first
+-- 32 free slots, and the hand at slot 0
 abbrev pub blank : Cache
 blank = record { hand = 0; slots = replicate 32 noEntry }
 
--- emptying leaves the hand where it stands
+-- all entries are deleted; the hand stays
 abbrev pub emptied : Cache → Cache
 emptied c = record { hand = c .hand; slots = replicate 32 noEntry }
 
--- is this the entry of a unit, given by its address?
+-- is this the entry of the unit with this address?
 abbrev pub isEntryOf : ℕ → Entry → Bool
 isEntryOf unit e = e .used && eqb (e .unit) unit
 
@@ -38,7 +38,7 @@ slotOf slots unit = firstIndex (isEntryOf unit) slots
 abbrev pub freeSlot : List Entry → ℕ
 freeSlot slots = firstIndex isFreeSlot slots
 
--- what a slot holds; there is nothing past the last
+-- the content of a slot; past the last there is no entry
 abbrev pub slotAt : List Entry → ℕ → Entry
 slotAt slots i = getD slots i noEntry
 
@@ -49,13 +49,13 @@ entryAt c i = slotAt (c .slots) i
 unfoldable pub found : Cache → ℕ → Found
 found c unit = cond (ltb (slotOf (c .slots) unit) 32) (Hit (entryAt c (slotOf (c .slots) unit))) Miss
 
--- slot i and the hand are set, and nothing else
+-- slot i and the hand are set; nothing else changes
 abbrev pub withSlot : Cache → ℕ → Entry → ℕ → Cache
 withSlot c i e hand = record { hand = hand; slots = set (c .slots) i e }
 
--- A fill goes where its unit has an entry already, or else into the lowest slot that is free. With none
--- free it goes where the hand points, which is a slot by the hand's remainder; the hand steps then and
--- only then, and wraps at 2 ^ 32.
+-- An entry is stored in the slot of the unit's old entry, if there is one, otherwise in the lowest free
+-- slot. If no slot is free, it replaces the slot of the hand (the hand modulo 32). Only then does the
+-- hand step; it wraps at 2 ^ 32.
 unfoldable pub filledWith : Entry → Cache → Cache
 filledWith e c =
     cond (ltb (slotOf (c .slots) (e .unit)) 32) (withSlot c (slotOf (c .slots) (e .unit)) e (c .hand))
@@ -80,7 +80,7 @@ slotsDropped stu range slots = map (entryDropped stu range) slots
 unfoldable pub rangeDropped : ℕ → Range → Cache → Cache
 rangeDropped stu range c = record { hand = c .hand; slots = slotsDropped stu range (c .slots) }
 
--- 32 slots, and at most one entry a unit: two used slots are never of the same one
+-- 32 slots, and at most one entry per unit
 pub record SoundCache (c : Cache) : Type 0 where
   pub slots : length (c .slots) ≡ 32
   pub single : (i j : ℕ) → entryAt c i .used ≡ true → entryAt c j .used ≡ true → entryAt c i .unit ≡ entryAt c j .unit

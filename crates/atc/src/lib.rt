@@ -1,10 +1,11 @@
-// The translation cache, behind its operations. Inside are 32 slots of one unit each, and the hand.
+// The address translation cache: 32 slots of one unit each, and the hand that
+// selects the slot to replace.
 use ranges::Range;
 ghost use mathlib.Core.Path.{_≡_};
 ghost use Rattle.lemmas.specs.First.{firstIndex};
 ghost use Rattle.atc.specs.Cache.{noEntry, isEntryOf, isFreeSlot, blank, emptied, slotAt, entryAt, found, filledWith, unitDropped, entryOverlaps, slotsDropped, rangeDropped};
 
-// One slot. A free one holds nothing else.
+// One slot. In a free slot every other field is 0 or false.
 pub struct Entry {
     pub used: bool,
     pub r: bool,
@@ -39,7 +40,7 @@ fn no_entry() -> Entry
     }
 }
 
-// No entry, and the hand at slot 0.
+// A new cache: no entry, and the hand at slot 0.
 pub fn new() -> Cache
     ensures { λ r. ⌜ r ≡ blank ⌝ }
 {
@@ -49,7 +50,7 @@ pub fn new() -> Cache
     }
 }
 
-// No entry is left, and the hand stays.
+// Deletes all entries; the hand stays.
 pub fn empty(mut c: Cache) -> Cache
     ensures { λ r. ⌜ r ≡ emptied c ⌝ }
 {
@@ -58,14 +59,14 @@ pub fn empty(mut c: Cache) -> Cache
     c
 }
 
-// There is nothing past the last slot.
+// The content of slot i; past the last slot there is no entry.
 fn slot_at(slots: [Entry; 32], i: usize) -> Entry
     ensures { λ r. ⌜ r ≡ slotAt slots i ⌝ }
 {
     if i < 32 { slots[i] } else { no_entry() }
 }
 
-// What slot i holds.
+// The content of slot i.
 pub fn entry_at(c: Cache, i: usize) -> Entry
     ensures { λ r. ⌜ r ≡ entryAt c i ⌝ }
 {
@@ -73,7 +74,7 @@ pub fn entry_at(c: Cache, i: usize) -> Entry
     slot_at(slots, i)
 }
 
-// How many entries gave way to others since the reset: the hand, which wraps at 2^32.
+// How many entries were replaced since the reset, modulo 2^32. This is the hand.
 pub fn evictions(c: Cache) -> u32
     ensures { λ r. ⌜ r ≡ c .hand ⌝ }
 {
@@ -87,7 +88,7 @@ fn is_entry_of(e: Entry, unit: u64) -> bool
     if e.used { e.unit == unit } else { false }
 }
 
-// The slot that holds a unit, and 32 where none does.
+// The slot with the entry of a unit, or 32 if there is none.
 fn slot_of(slots: [Entry; 32], unit: u64) -> usize
     ensures { λ r. ⌜ r ≡ firstIndex (isEntryOf unit) slots ⌝ }
 {
@@ -115,7 +116,7 @@ fn lowest_free(slots: [Entry; 32]) -> usize
     i
 }
 
-// The entry of a unit.
+// Finds the entry of a unit.
 pub fn find(c: Cache, unit: u64) -> Found
     ensures { λ r. ⌜ r ≡ found c unit ⌝ }
 {
@@ -128,8 +129,8 @@ pub fn find(c: Cache, unit: u64) -> Found
     }
 }
 
-// Into the slot of the unit's entry, or else the lowest free one; with none free into the slot that
-// the hand names, and the hand steps.
+// Stores an entry: in the slot of the unit's old entry, else in the lowest free slot, else in the
+// slot of the hand, which then steps.
 pub fn fill(mut c: Cache, e: Entry) -> Cache
     ensures { λ r. ⌜ r ≡ filledWith e c ⌝ }
 {
@@ -152,7 +153,7 @@ pub fn fill(mut c: Cache, e: Entry) -> Cache
     c
 }
 
-// The entry of a unit is deleted.
+// Deletes the entry of a unit.
 pub fn drop_unit(mut c: Cache, unit: u64) -> Cache
     ensures { λ r. ⌜ r ≡ unitDropped unit c ⌝ }
 {
@@ -188,7 +189,7 @@ fn drop_slots(mut slots: [Entry; 32], stu: u8, range: Range) -> [Entry; 32]
     slots
 }
 
-// Every entry whose unit overlaps a range is deleted.
+// Deletes every entry whose unit overlaps a range.
 pub fn drop_range(mut c: Cache, stu: u8, range: Range) -> Cache
     ensures { λ r. ⌜ r ≡ rangeDropped stu range c ⌝ }
 {

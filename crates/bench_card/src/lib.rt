@@ -1,5 +1,5 @@
-// A script of calls, replayed on the card: what benchmarks/card measures. A call is three numbers
-// and a part of a pool of bytes, which benchmarks/card/script.h takes apart in the same way.
+// Replays a script of calls on the card, for benchmarks/card. A call is three numbers and a part of
+// a pool of bytes; benchmarks/card/script.h decodes them in the same way.
 mod sums;
 
 use call_access::Direction;
@@ -15,7 +15,7 @@ use test_records::take;
 ghost use Prim.Native.Nat.{_/_, _<_, _≤_};
 ghost use lib.ListN.{length};
 
-// `from` and `load`: which part of the pool is the call's.
+// `from` and `load` give the part of the pool that the call uses.
 struct Step {
     code: u8,
     flags: u8,
@@ -46,7 +46,7 @@ fn bytes_of(s: Step, pool: &[u8]) -> &[u8] {
     take::front(take::part(pool, s.from), s.load)
 }
 
-// How much of a buffer of `most` bytes is lent.
+// How many of the `most` bytes of a buffer the call is given.
 fn room_of(s: Step, most: usize) -> usize
     ensures { λ n. ⌜ n ≤ most ⌝ }
 {
@@ -122,10 +122,10 @@ fn single(f: Function, s: Step, bytes: &[u8], out: &mut [u8]) -> Effect {
     }
 }
 
-// Every call through the one entry, from a new Function on. The sum is of the answers and the
-// lengths of what was sent, and at the end of the buffer and the state; checked, also of what each
-// call handed back and of the buffer after it. This loop and the next stand apart because one that
-// chooses in each turn is slower, measured at 1.3 to 1.5 times the time.
+// Makes every call through `card::call`, from a new Function on. The sum is over the answers and
+// the lengths of the packets sent, and at the end over the buffer and the state; if `checked`, also
+// over the payload that each call returns and the buffer after it. There are two loops, since one
+// that chooses in each turn takes 1.3 to 1.5 times as long.
 #[no_mangle]
 pub extern "C" fn card_by_call(script: &[u64], pool: &[u8], out: &mut [u8], checked: bool) -> u64 {
     let mut f = card::new();

@@ -1,6 +1,7 @@
-// Sums over what calls answer and send, one number after the other.
+// Checksums over what calls answer and send.
 use state::Answer;
 
+// Adds one number to a sum.
 pub(crate) fn mix(sum: u64, x: u32) -> u64 {
     sum % 4294967296 * 16777619 + x as u64
 }
@@ -9,6 +10,7 @@ fn wide(x: u8) -> u32 {
     x as u32
 }
 
+// Adds bytes to a sum.
 pub(crate) fn of_bytes(start: u64, bytes: &[u8]) -> u64 {
     let mut sum = start;
     let mut i: usize = 0;
@@ -36,6 +38,7 @@ fn code(a: Answer) -> u32 {
     }
 }
 
+// Adds an answer, and the length of the packet sent, to a sum.
 pub(crate) fn of_answer(sum: u64, a: Answer, sent: usize) -> u64 {
     mix(mix(sum, code(a)), (sent % 4294967296) as u32)
 }

@@ -1,4 +1,4 @@
--- What an access that goes somewhere passed.
+-- What is known of an access that has a target.
 use mathlib.Core.Path.{_≡_, _∙_}
 use mathlib.Core.List.{[], _∷_}
 use Prim.Native.Nat.{ℕ, _%_, _≤_}
@@ -21,7 +21,7 @@ use Rattle.call_access.specs.declared.AccessArgs.{AccessArgs}
 use Rattle.call_access.specs.declared.Target.{Target}
 use Rattle.call_access.specs.Access.{isInPage, payloadLengthFor, unitAt, isAllowed, targetOf, throughFound, lookingUp}
 
--- 1 to 32 DWORDs, the payload that they take, and a place that is a multiple of 4
+-- 1 to 32 DWORDs, the right payload length, and a DWORD-aligned target
 pub record Reached (direction : Direction) (dwords load : ℕ) (at : Target) : Type 0 where
   pub some : 1 ≤ dwords
   pub few : dwords ≤ 32

@@ -1,4 +1,4 @@
--- Access, and the look-up that says where one goes. 01, "Access".
+-- Access, and the look-up of its target. 01, "Access".
 use mathlib.Core.Bool.{Bool, true, false, cond, _&&_}
 use mathlib.Core.List.{List}
 use Prim.Native.Nat.{ℕ, _+_, _*_, _%_}
@@ -28,17 +28,17 @@ use Rattle.call_access.specs.declared.Target.{Target}
 use Rattle.call_access.specs.declared.Goes.{Goes}
 use Rattle.call_access.specs.declared.Goes.the-variants.{To, Refused}
 
--- the result that a look-up's answer stands for
+-- the result of an answer of the look-up's code
 abbrev pub lookUpResult : Goes → Result Target
 lookUpResult (To t) = ok t
 lookUpResult (Refused r) = refusal (numberOf r)
 
--- 1 to 32 DWORDs from a multiple of 4 on, within one 4096-byte page
+-- 1 to 32 DWORDs from a DWORD-aligned address on, within one 4096-byte page
 abbrev pub isInPage : ℕ → ℕ → Bool
 isInPage address dwords =
     leb 1 dwords && (leb dwords 32 && (eqb (address % 4) 0 && leb (address % 4096 + 4 * dwords) 4096))
 
--- a write takes 4 bytes a DWORD, a read none
+-- a write has 4 bytes of payload per DWORD, a read has none
 abbrev pub payloadLengthFor : Direction → ℕ → ℕ
 payloadLengthFor ToRead dwords = 0
 payloadLengthFor ToWrite dwords = 4 * dwords
@@ -47,20 +47,22 @@ payloadLengthFor ToWrite dwords = 4 * dwords
 abbrev pub unitAt : ℕ → ℕ → ℕ
 unitAt stu address = regionOf address (unitExponent stu) .first
 
--- what an entry lets through
+-- does an entry permit this direction?
 abbrev pub isAllowed : Direction → Entry → Bool
 isAllowed ToRead e = e .r
 isAllowed ToWrite e = e .w
 
--- the same place in the entry's unit, as a translated address; under U the address as it is
+-- the address with the same offset in the translated unit; if U is set, the untranslated address
 abbrev pub targetOf : ℕ → ℕ → Entry → Target
-targetOf stu address e = cond (e .u) (record { address = address; translated = false }) (record { address = relocated (e .to) address (unitExponent stu); translated = true })
+targetOf stu address e =
+    cond (e .u) (record { address = address; translated = false })
+    (record { address = relocated (e .to) address (unitExponent stu); translated = true })
 
 abbrev pub throughFound : Direction → ℕ → ℕ → Found → Result Target
 throughFound direction stu address Miss = refusal 13
 throughFound direction stu address (Hit e) = check 14 (isAllowed direction e) (ok (targetOf stu address e))
 
--- 6, 12, 13, 14; load is the bytes of payload handed in
+-- refusals 6, 12, 13, 14 in this order; load is the payload length
 unfoldable pub lookingUp : Function → AccessArgs → ℕ → Result Target
 lookingUp f a load =
     check 6 (f .enabled)
@@ -75,15 +77,16 @@ memoryRequestPacket id access dwords t =
       body = Mem (record { access = access; dwords = dwords; address = t .address; translated = t .translated });
     }
 
--- a read opens a tag, by the address asked
+-- a read takes a tag, which records the untranslated address
 abbrev pub readFrom : Function → Tag → Target → AccessArgs → List ℕ → List ℕ → Result Success
 readFrom f t at a load out =
-    sends (withTag f t (newRead (a .address) (4 * a .dwords) (at .translated))) (tag (t .0)) (memoryRequestPacket (f .id) (Read t) (a .dwords) at) load out
+    sends (withTag f t (newRead (a .address) (4 * a .dwords) (at .translated))) (tag (t .0))
+    (memoryRequestPacket (f .id) (Read t) (a .dwords) at) load out
 
 abbrev pub writeTo : Function → Target → ℕ → List ℕ → List ℕ → Result Success
 writeTo f at dwords load out = sends f done (memoryRequestPacket (f .id) Write dwords at) load out
 
--- 11 where no tag is free
+-- refused with 11 if no tag is free
 abbrev pub readOn : Function → FreeTag → Target → AccessArgs → List ℕ → List ℕ → Result Success
 readOn f (Lowest t) at a load out = readFrom f t at a load out
 readOn f NoneFree at a load out = refusal 11
@@ -96,6 +99,6 @@ abbrev pub sendsAccessIf : Function → AccessArgs → List ℕ → List ℕ →
 sendsAccessIf f a load out (ok at) = sendsAccess f (a .direction) at a load out
 sendsAccessIf f a load out (refusal n) = refusal n
 
--- 6, 12, 13, 14, 11 for reads, 17
+-- refusals 6, 12, 13, 14, 11 (reads only), 17 in this order
 unfoldable pub accessing : Function → AccessArgs → List ℕ → List ℕ → Result Success
 accessing f a load out = sendsAccessIf f a load out (lookingUp f a (length load))

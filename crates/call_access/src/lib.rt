@@ -1,4 +1,4 @@
-// Access: a read or write through the cache; and look-up, which says where one would go.
+// Access: a read or write through the cache; and look-up, which computes its target.
 use atc::Entry;
 use atc::Found;
 use packet::Access;
@@ -23,14 +23,14 @@ pub enum Direction {
     Write,
 }
 
-// An access of DWORDs from an address on.
+// An access to a number of DWORDs at an address.
 pub struct AccessArgs {
     pub direction: Direction,
     pub address: u64,
     pub dwords: u16,
 }
 
-// Where an access goes: the address that is sent, and whether it is a translated one.
+// The target of an access: the address that is sent, and whether it is translated.
 pub struct Target {
     pub address: u64,
     pub translated: bool,
@@ -54,7 +54,7 @@ fn is_in_page(address: u64, dwords: u16) -> bool
     false
 }
 
-// The bytes of payload that an access takes.
+// The payload length of an access.
 fn payload_length_for(direction: Direction, dwords: u16) -> usize
     ensures { λ r. ⌜ r ≡ payloadLengthFor direction dwords ⌝ }
 {
@@ -108,7 +108,7 @@ fn through_found(direction: Direction, stu: u8, address: u64, entry: Found) -> G
     }
 }
 
-// Where an access with `load` bytes of payload would go. Nothing is changed.
+// The target of an access with `load` bytes of payload, or why it is refused. Nothing changes.
 pub fn look_up(f: Function, a: AccessArgs, load: usize) -> Goes
     ensures { λ r. ⌜ lookUpResult r ≡ lookingUp f a load ⌝ }
 {
@@ -214,7 +214,7 @@ fn send_access(f: Function, at: Target, a: AccessArgs, payload: &[u8], out: &mut
     }
 }
 
-// A read or a write.
+// Sends a read or a write.
 pub fn access(f: Function, a: AccessArgs, payload: &[u8], out: &mut [u8]) -> Effect
     ensures { λ r. ⌜ observed r (now (out .exit)) ≡ commit f (now (out .entry)) (accessing f a (now (payload .entry)) (now (out .entry))) ⌝ }
 {

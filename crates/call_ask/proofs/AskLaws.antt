@@ -1,4 +1,4 @@
--- What may be asked for.
+-- What can be requested.
 use mathlib.Core.Path.{_≡_}
 use mathlib.Core.Bool.{true}
 use Prim.Native.Nat.{ℕ, _/_, _≤_}
@@ -12,7 +12,7 @@ use Rattle.translations.specs.Fits.{boundary}
 use Rattle.call_ask.specs.declared.AskArgs.{AskArgs}
 use Rattle.call_ask.specs.Ask.{isUnitCount, isBelowTop, isAskable}
 
--- what may be asked for is 16 units at most
+-- at most 16 units can be requested
 pub few-units : (rcb : Rcb) (stu : ℕ) (a : AskArgs) → isAskable rcb stu a ≡ true → (1 ≤ a .units) × (a .units ≤ 16)
 unfolding isAskable
 few-units rcb stu a e =

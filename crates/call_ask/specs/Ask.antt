@@ -18,18 +18,18 @@ use Rattle.state.specs.State.{headOf, withTag}
 use Rattle.state.specs.Answers.{Success, tag, sends}
 use Rattle.call_ask.specs.declared.AskArgs.{AskArgs}
 
--- how many units may be asked for
+-- is this number of units allowed?
 abbrev pub isUnitCount : Rcb → ℕ → Bool
 isUnitCount rcb units = leb 1 units && leb units (boundary rcb / 8)
 
--- the range, N units from the one that holds the address, does not pass 2 ^ 64
+-- the N units from the one that holds the address on end at or below 2 ^ 64
 unfoldable pub isBelowTop : ℕ → ℕ → ℕ → Bool
 isBelowTop stu address units = leb (regionOf address (unitExponent stu) .first + units * unitBytes stu) (2 ^ 64)
 
 unfoldable pub isAskable : Rcb → ℕ → AskArgs → Bool
 isAskable rcb stu a = isUnitCount rcb (a .units) && isBelowTop stu (a .address) (a .units)
 
--- a request of Length 2N, for the address without its bits 11:0
+-- a request of Length 2N, for the address with bits 11:0 cleared
 abbrev pub translationRequestPacket : ℕ → Tag → AskArgs → Packet
 translationRequestPacket id t a =
     record {
@@ -38,14 +38,16 @@ translationRequestPacket id t a =
     }
 
 abbrev pub askWithTag : Function → Tag → AskArgs → List ℕ → Result Success
-askWithTag f t a out = sends (withTag f t (newTranslation (a .address) (a .units - 1) (f .stu))) (tag (t .0)) (translationRequestPacket (f .id) t a) [] out
+askWithTag f t a out =
+    sends (withTag f t (newTranslation (a .address) (a .units - 1) (f .stu))) (tag (t .0))
+    (translationRequestPacket (f .id) t a) [] out
 
--- 11 where no tag is free
+-- refused with 11 if no tag is free
 abbrev pub askOn : Function → FreeTag → AskArgs → List ℕ → Result Success
 askOn f (Lowest t) a out = askWithTag f t a out
 askOn f NoneFree a out = refusal 11
 
--- 6, 12, 11, 17
+-- refusals 6, 12, 11, 17 in this order
 unfoldable pub asking : Function → AskArgs → List ℕ → Result Success
 asking f a out =
     check 6 (f .enabled)

@@ -15,14 +15,14 @@ ghost use Prim.Native.Nat.{_-_, _≤_};
 ghost use Rattle.state.specs.Answers.{observed, commit};
 ghost use Rattle.call_ask.specs.Ask.{translationRequestPacket, isUnitCount, isBelowTop, isAskable, askWithTag, askOn, asking};
 
-// What is asked for: so many units from the one that holds an address, and whether no write is meant.
+// The arguments: the number of units from the one that holds an address on, and the No Write flag.
 pub struct AskArgs {
     pub address: u64,
     pub units: u16,
     pub nowrite: bool,
 }
 
-// How many units may be asked for.
+// Is this number of units allowed?
 fn is_unit_count(rcb: Rcb, units: u16) -> bool
     ensures { λ r. ⌜ r ≡ isUnitCount rcb units ⌝ }
 {
@@ -33,7 +33,7 @@ fn is_unit_count(rcb: Rcb, units: u16) -> bool
     }
 }
 
-// The units from the one that holds an address end at or below 2^64.
+// Do the units from the one that holds an address on end at or below 2^64?
 fn is_below_top(stu: u8, address: u64, units: u16) -> bool
     requires { ⌜ 1 ≤ units ⌝ }
     ensures { λ r. ⌜ r ≡ isBelowTop stu address units ⌝ }
@@ -106,7 +106,7 @@ fn ask_on(f: Function, free: FreeTag, a: AskArgs, out: &mut [u8]) -> Effect
     }
 }
 
-// A Translation Request.
+// Sends a Translation Request.
 pub fn ask(f: Function, a: AskArgs, out: &mut [u8]) -> Effect
     ensures { λ r. ⌜ observed r (now (out .exit)) ≡ commit f (now (out .entry)) (asking f a (now (out .entry))) ⌝ }
 {

@@ -18,15 +18,15 @@ use Rattle.state.specs.Answers.{Success, done, sends}
 abbrev pub pageRequestPacket : ℕ → PageRequest → Packet
 pageRequestPacket id q = record { head = headOf id; body = Prq q }
 
--- R or W, a page, and an index of 0 to 31
+-- R or W is set, the address is that of a page, and the index is 0 to 31
 abbrev pub isValidRequest : PageRequest → Bool
 isValidRequest q = (q .read || q .write) && (eqb (q .page % 4096) 0 && isIndex (q .index))
 
--- one request more, which uses a credit
+-- one more request, which uses a credit
 abbrev pub withRequest : Pages → PageRequest → Pages
 withRequest p q = withGroups p (requestAdded (p .groups) (q .index) (q .last))
 
--- while the interface is on: 12, 16 for a group that waits or where no credit is left, 17
+-- with the interface on: refused with 12; with 16 if the group waits or no credit is left; with 17
 unfoldable pub requestingOn : Function → PageRequest → List ℕ → Result Success
 requestingOn f q out =
     check 12 (isValidRequest q)
@@ -34,7 +34,7 @@ requestingOn f q out =
     (refuse 16 (isSpent (f .pages .groups) (f .pages .allocation))
     (sends (withPages f (withRequest (f .pages) q)) done (pageRequestPacket (f .id) q) [] out)))
 
--- 15 where it is off or stopped
+-- refused with 15 if the interface is off or stopped
 abbrev pub requesting : Function → PageRequest → List ℕ → Interface → Result Success
 requesting f q out Off = refusal 15
 requesting f q out On = requestingOn f q out

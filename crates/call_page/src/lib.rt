@@ -92,6 +92,7 @@ fn request_page(f: Function, q: PageRequest, out: &mut [u8]) -> Effect
     }
 }
 
+// Sends a Page Request.
 pub fn page_request(f: Function, q: PageRequest, out: &mut [u8]) -> Effect
     ensures { λ r. ⌜ observed r (now (out .exit)) ≡ commit f (now (out .entry)) (requesting f q (now (out .entry)) (f .pages .interface)) ⌝ }
 {

@@ -1,4 +1,4 @@
--- Where receiving bytes answers payload, what is handed back is the packet from byte 12 on.
+-- If the answer to a received packet is payload, the returned payload is the packet from byte 12 on.
 use mathlib.Core.Path.{_≡_, refl, ap}
 use mathlib.Core.Bool.{true, false}
 use mathlib.Core.List.{List, []}
@@ -24,7 +24,7 @@ use Rattle.on_invalidate.specs.Invalidate.{invalidated}
 use Rattle.call_receive.specs.Responses.{respondedOn, responded}
 use Rattle.call_receive.specs.Receive.{taken, takenIf, received, isPayload, payloadFor}
 
--- a call that brings no bytes of a read
+-- a call that does not answer payload
 abbrev Bare : Success → Type 0
 Bare d = isPayload (ok (d .answer)) ≡ false
 

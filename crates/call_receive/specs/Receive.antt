@@ -1,4 +1,4 @@
--- Receiving: what reading refuses; 2 for a kind that is not taken; 5; then the numbers of the kind. 01, "Order", "Completion for a read".
+-- Receiving: the refusals of reading; 2 for a kind that a Function does not receive; 5; then the refusals of the kind. 01, "Order", "Completion for a read".
 use mathlib.Core.Bool.{Bool, true, false, cond}
 use mathlib.Core.List.{List, []}
 use Prim.Native.Nat.{ℕ}
@@ -14,7 +14,7 @@ use Rattle.on_completion.specs.Completions.{completed}
 use Rattle.on_invalidate.specs.Invalidate.{invalidated}
 use Rattle.call_receive.specs.Responses.{responded}
 
--- the kinds that the Function takes, if they are for it
+-- the kinds that a Function receives, if they are addressed to it
 unfoldable pub taken : Function → ℕ → List ℕ → Body → Result Success
 taken f from load (Tr t) = refusal 2
 taken f from load (Mem m) = refusal 2
@@ -31,7 +31,7 @@ takenIf f load (refusal n) = refusal n
 unfoldable pub received : Function → List ℕ → Result Success
 received f b = takenIf f (payloadIn b) (reading b)
 
--- is this what a completion that brings a read's bytes answers?
+-- is this the answer to a completion with data for a read?
 abbrev pub isPayload : Result Unrefused → Bool
 isPayload (ok done) = false
 isPayload (ok (tag t)) = false
@@ -46,7 +46,7 @@ isPayload (ok payloadLast) = true
 isPayload (ok readFailed) = false
 isPayload (refusal n) = false
 
--- the payload handed back, by the answer to these bytes: what the packet layer reads as payload, and
--- nothing with any other answer
+-- the payload that is returned after this answer to these bytes: that of the packet if it
+-- completes a read, otherwise empty
 unfoldable pub payloadFor : Result Unrefused → List ℕ → List ℕ
 payloadFor a b = cond (isPayload a) (payloadIn b) []

@@ -12,18 +12,18 @@ use Rattle.state.specs.declared.Function.{Function}
 use Rattle.state.specs.State.{withPages}
 use Rattle.state.specs.Answers.{Success, done, sendsNothing}
 
--- a group is answered
+-- the group is closed
 abbrev pub groupAnswered : Pages → PrgIndex → Pages
 groupAnswered p k = withGroups p (closed (p .groups) k)
 
--- codes 0 and 1 close a group that waits; 2 to 15 are Response Failure, whatever the index
+-- codes 0 and 1 close a waiting group; codes 2 to 15 are Response Failure, for any index
 unfoldable pub respondedOn : Function → ℕ → PrgIndex → Result Success
 respondedOn f code k =
     cond (leb code 1)
     (check 7 (isWaiting (f .pages .groups) k) (sendsNothing (withPages f (groupAnswered (f .pages) k)) done))
     (sendsNothing (withPages f stopped) done)
 
--- 7 while the interface is not on
+-- refused with 7 if the interface is not on
 abbrev pub responded : Function → ℕ → PrgIndex → Interface → Result Success
 responded f code k Off = refusal 7
 responded f code k On = respondedOn f code k

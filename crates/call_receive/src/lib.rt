@@ -1,4 +1,4 @@
-// The call that receives a packet, and the payload that it hands back.
+// The call that receives a packet, and the payload that it returns.
 use packet::Body;
 use packet::Completion;
 use packet::InvalidateRequest;
@@ -103,7 +103,7 @@ fn take(f: Function, from: u16, load: &[u8], body: Body) -> Effect
     }
 }
 
-// Any bytes.
+// Receives a packet. The bytes can be anything.
 pub fn receive(f: Function, b: &[u8]) -> Effect
     ensures { λ e. ⌜ observed e [] ≡ commit f [] (received f (now (b .entry))) ⌝ }
 {
@@ -136,8 +136,8 @@ fn is_payload(a: Answer) -> bool
     }
 }
 
-// The payload that a completion for a read hands back, by what `receive` of these bytes answered: the
-// part of the packet that the packet layer reads as its payload. For every other answer the part is empty.
+// The payload to return after `receive` of these bytes gave this answer: the packet's payload if it
+// was a completion with data for a read, otherwise empty.
 pub fn payload_of(answer: Answer, b: &[u8]) -> &[u8]
     ensures { λ r. ⌜ now r ≡ payloadFor (answerResult answer) (now (b .entry)) ⌝ }
 {

@@ -15,12 +15,12 @@ use Rattle.state.specs.declared.Function.{Function}
 use Rattle.state.specs.State.{withWaiting, headOf}
 use Rattle.state.specs.Answers.{Success, carries, sendsNothing, sends}
 
--- no ITag waits before an agent is known
+-- the agent's ID; no ITag waits before it is known, so the 0 is not used
 abbrev pub agentId : Agent → ℕ
 agentId Unknown = 0
 agentId (Known id) = id
 
--- one Invalidate Completion to the agent, on one Traffic Class of one
+-- one Invalidate Completion to the agent; CC is 1, as only one Traffic Class is used
 abbrev pub invalidateCompletionPacket : ℕ → Agent → ℕ → Packet
 invalidateCompletionPacket id agent v =
     record {
@@ -28,15 +28,16 @@ invalidateCompletionPacket id agent v =
       body = Ic (record { device = agentId agent; cc = 1; vector = v });
     }
 
--- the ITags that wait and that no open read delays
+-- the waiting ITags that no outstanding read delays
 abbrev pub readyOf : Function → ℕ
 readyOf f = without (f .waiting) (delayedItags (f .tags))
 
--- a completion for a vector of ITags, which wait no longer; it says how many they are
+-- a completion for a vector of ITags, which then no longer wait; the answer is their number
 unfoldable pub sendsVector : Function → ℕ → List ℕ → Result Success
 sendsVector f v out =
     cond (eqb v 0) (sendsNothing f (carries 0))
-    (sends (withWaiting f (without (f .waiting) v)) (carries (ones v)) (invalidateCompletionPacket (f .id) (f .agent) v) [] out)
+    (sends (withWaiting f (without (f .waiting) v)) (carries (ones v))
+    (invalidateCompletionPacket (f .id) (f .agent) v) [] out)
 
 abbrev pub draining : Function → List ℕ → Result Success
 draining f out = sendsVector f (readyOf f) out

@@ -1,4 +1,4 @@
-// Drain: one Invalidate Completion for the ITags that no read delays.
+// Drain: one Invalidate Completion for the waiting ITags that no read delays.
 use packet::Body;
 use packet::InvalidateCompletion;
 use packet::Packet;
@@ -34,7 +34,7 @@ fn invalidate_completion_packet(id: u16, agent: Agent, v: u32) -> Packet
     }
 }
 
-// The ITags that wait and that no open read delays.
+// The waiting ITags that no outstanding read delays.
 pub fn ready(f: Function) -> u32
     ensures { λ r. ⌜ r ≡ readyOf f ⌝ }
 {
@@ -43,7 +43,7 @@ pub fn ready(f: Function) -> u32
     tags::itags::without(f.waiting, delayed)
 }
 
-// One completion for a vector of ITags, if there are any.
+// Sends one Invalidate Completion for a vector of ITags, if it is not empty.
 fn send_vector(f: Function, v: u32, out: &mut [u8]) -> Effect
     ensures { λ r. ⌜ observed r (now (out .exit)) ≡ commit f (now (out .entry)) (sendsVector f v (now (out .entry))) ⌝ }
 {
@@ -68,6 +68,7 @@ fn send_vector(f: Function, v: u32, out: &mut [u8]) -> Effect
     }
 }
 
+// Sends one Invalidate Completion for all ready ITags, if there are any.
 pub fn drain(f: Function, out: &mut [u8]) -> Effect
     ensures { λ r. ⌜ observed r (now (out .exit)) ≡ commit f (now (out .entry)) (draining f (now (out .entry))) ⌝ }
 {

@@ -1,4 +1,4 @@
--- Every way in which a call can end, with what is known there. What holds of each holds of every call.
+-- Every way in which a call can end, with what is known there. What holds in each case holds for every call.
 use mathlib.Core.Path.{_≡_, refl}
 use mathlib.Core.Bool.{Bool, true, false}
 use mathlib.Core.List.{List, [], _∷_}
@@ -63,7 +63,7 @@ use Rattle.card.specs.Numbers.{numbersOf}
 use Rattle.card.specs.Call.{calling}
 use lib.Count.{ones}
 
--- the numbers that a packet of each kind can be refused with once it is read
+-- the numbers with which a packet of each kind can be refused after it was read
 abbrev pub numbersOfKind : Body → List ℕ
 numbersOfKind (Tr t) = 2 ∷ []
 numbersOfKind (Mem m) = 2 ∷ []
@@ -83,7 +83,7 @@ pub record Arrives (f : Function) (bytes : List ℕ) (body : Body) (to : ℕ) : 
 abbrev pub Completes : Function → List ℕ → Completion → Type 0
 Completes f bytes x = Arrives f bytes (Cpl x) (x .requester)
 
--- what a completion is to the Translation Request on its tag
+-- the class of a completion for the Translation Request of its tag
 abbrev pub partOf : Function → List ℕ → Completion → PendingTranslation → Part
 partOf f bytes x q = classified q (f .rcb) (x .count) (x .lower) (payloadIn bytes)
 
@@ -95,7 +95,7 @@ module _ (f : Function) (bytes out : List ℕ) where
     pub refused : (c : Command) (n : ℕ) → isAmong n (numbersOf c) ≡ true → P c (refusal n)
     pub refusedKind : (p : Packet) → reading bytes ≡ ok p → (n : ℕ) → isAmong n (numbersOfKind (p .body)) ≡ true
         → P Receive (refusal n)
-    -- neither sends nor receives
+    -- calls that neither send nor receive
     pub reset : (a : ResetArgs) → leb (a .stu) 31 ≡ true → isRcb (a .rcb) ≡ true
         → P (Reset a) (sendsNothing (fresh (a .id) (a .stu) (rcbOf (a .rcb))) done)
     pub enabled : P Enable (sendsNothing f done)
@@ -105,7 +105,7 @@ module _ (f : Function) (bytes out : List ℕ) where
         → P (PagesOn allocation) (sendsNothing (withPages f (switchedOn allocation)) done)
     pub pagesOff : P PagesOff (sendsNothing (withPages f switchedOff) done)
     pub pagesNotOn : P PagesOff (sendsNothing f done)
-    -- sends, where there is room
+    -- calls that send, if there is room
     pub ask : (a : AskArgs) (t : Tag) → isAskable (f .rcb) (f .stu) a ≡ true → freeTag (f .tags) ≡ Lowest t
         → P (Asks a) (askWithTag f t a out)
     pub read : (a : AccessArgs) (at : Target) (t : Tag) → a .direction ≡ ToRead → lookingUp f a (length bytes) ≡ ok at
@@ -116,7 +116,7 @@ module _ (f : Function) (bytes out : List ℕ) where
     pub drains : P Drain (sends (withWaiting f (without (f .waiting) (readyOf f))) (carries (ones (readyOf f))) (invalidateCompletionPacket (f .id) (f .agent) (readyOf f)) [] out)
     pub page : (q : PageRequest) → isValidRequest q ≡ true → isSpent (f .pages .groups) (f .pages .allocation) ≡ false
         → P (PageRequests q) (sends (withPages f (withRequest (f .pages) q)) done (pageRequestPacket (f .id) q) [] out)
-    -- receives a completion for a read: the last bytes, some of them, none
+    -- a completion for a read is received: the last bytes, some of them, none
     pub readEnds : (x : Completion) (r : PendingRead) (n : ℕ) → Completes f bytes x
         → tagState (f .tags) (x .tag) ≡ Read r → x .outcome ≡ Data n → eqb (x .count) (r .due) ≡ true
         → eqb (length load) (r .due) ≡ true
@@ -152,7 +152,7 @@ module _ (f : Function) (bytes out : List ℕ) where
         → tagState (f .tags) (x .tag) ≡ Translate q → x .outcome ≡ Data n → partOf f bytes x q ≡ Last
         → isLive f q ≡ true
         → P Receive (sendsNothing (withTag (withCache f (applied q load (f .cache))) (x .tag) Free) filled)
-    -- receives an Invalidate Request, and a PRG Response
+    -- an Invalidate Request is received, and a PRG Response
     pub invalidates : (i : InvalidateRequest) (a : Arrives f bytes (Inv i) (i .device))
         → isOtherAgent (f .agent) (a .packet .head .sender) ≡ false → isIn (f .waiting) (i .itag) ≡ false
         → P Receive (sendsNothing (invalidatedBy f (a .packet .head .sender) i) done)
@@ -162,7 +162,7 @@ module _ (f : Function) (bytes out : List ℕ) where
         → P Receive (sendsNothing (withPages f stopped) done)
 
 module _ (f : Function) (bytes out : List ℕ) (P : Command → Result Success → Type 0) (k : Cases f bytes out P) where
-  -- a test before more: it refuses where it fails, or where it holds
+  -- a test before further ones: it refuses if it fails, or if it holds
   needs : (c : Command) (n : ℕ) → isAmong n (numbersOf c) ≡ true → (t : Bool) (s : Result Success) → (t ≡ true → P c s)
       → P c (check n t s)
   needs c n l t s h = either-case (P c) t s (refusal n) h (λ e. k .refused c n l)

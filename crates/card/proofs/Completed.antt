@@ -1,4 +1,4 @@
--- What a completion that is received changes.
+-- What a received completion changes.
 use mathlib.Core.Path.{_≡_, refl, sym, _∙_}
 use mathlib.Core.Bool.{true, false}
 use mathlib.Core.List.{List}
@@ -44,14 +44,14 @@ module _ (f : Function) (bytes out : List ℕ) (c : Completion) (comes : Complet
   unfolding calling received taken
   does-received Q k = rw (comes .reads, comes .body) (does-case Q (eqb (c .requester) (f .id)) (completed f c (payloadIn bytes)) (refusal 5) (λ e. k) (λ e. does-refusal Q 5))
 
-  -- with E clear, for a stale request, and for a read, it changes no slot, nor the hand
+  -- with E clear, for a stale request, and for a read, it changes neither a slot nor the hand
   pub completion-spares : ((q : PendingTranslation) → tagState (f .tags) (c .tag) ≡ Translate q → isLive f q ≡ false)
       → stateAfter .cache ≡ f .cache
   completion-spares dead =
       commit-in (λ g. g .cache ≡ f .cache) f out (calling f Receive bytes out) refl
       (does-received _ (completed-keeps f c (payloadIn bytes) (λ k l p. k ≡ f .cache) (λ o. refl) (λ q o e live. absurd (never-both _ live (dead q e)))))
 
-  -- a unit outside the range of its request gets no entry: it keeps its own, or loses it
+  -- a unit outside the range of its request gets no new entry: it keeps its own or loses it
   pub completion-outside : Sound f → (unit : ℕ)
       → ((q : PendingTranslation) → tagState (f .tags) (c .tag) ≡ Translate q → Inside (translationRange q) unit → ⊥)
       → (found (stateAfter .cache) unit ≡ found (f .cache) unit) ⊎ (found (stateAfter .cache) unit ≡ Miss)
@@ -60,7 +60,7 @@ module _ (f : Function) (bytes out : List ℕ) (c : Completion) (comes : Complet
       (does-received _ (completed-keeps f c (payloadIn bytes) (λ k l p. (found k unit ≡ found (f .cache) unit) ⊎ (found k unit ≡ Miss)) (λ o. inl refl)
       (λ q o e live. applied-outside q (payloadIn bytes) (f .cache) (h .cache) unit (outside q e))))
 
-  -- a completion for a read, not refused, that is not merely a part of it
+  -- an unrefused completion that ends a read
   module _ (r : PendingRead) (held : tagState (f .tags) (c .tag) ≡ Read r) (w : Unrefused) (says : step f Receive bytes out .answer ≡ ok w) (ends : w ≡ payloadMore → ⊥) where
     -- frees the read's tag and changes nothing else,
     pub read-ended : stateAfter ≡ withTag f (c .tag) Free
@@ -71,7 +71,8 @@ module _ (f : Function) (bytes out : List ℕ) (c : Completion) (comes : Complet
         go (ok d) k q = ⊎-elim (λ a. a) (λ a. absurd (ends (sym (ok-injective q) ∙ a .0))) (k .success d refl)
         go (refusal n) k q = impossible cc
 
-    -- so that an ITag is ready then exactly where it waits and no other read delays it
+    -- so that afterwards an ITag is ready if and only if it waits and no other read delays it
     pub ended-ready : Sound f → (i : ITag)
-        → (isIn (readyOf stateAfter) i ≡ true) ↔ ((isIn (f .waiting) i ≡ true) × ((h : Delaying (f .tags) i) → h .tag .0 ≡ c .tag .0))
+        → (isIn (readyOf stateAfter) i ≡ true)
+        ↔ ((isIn (f .waiting) i ≡ true) × ((h : Delaying (f .tags) i) → h .tag .0 ≡ c .tag .0))
     ended-ready sound i = rw read-ended (freed-ready f i (c .tag) (sound .tags))

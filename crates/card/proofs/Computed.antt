@@ -1,5 +1,5 @@
--- What a call computes with. A proof by computation says `unfolding computed`, which
--- unfolds all that stands in its line.
+-- The definitions that a call computes with. A proof by computation says `unfolding
+-- computed`, which unfolds all of them.
 use Prim.Native.Nat.{ℕ}
 use Rattle.lemmas.specs.All.{allBelow}
 use Rattle.lemmas.specs.First.{firstIndex}

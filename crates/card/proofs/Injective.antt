@@ -1,4 +1,4 @@
--- An answer, and where an access goes, are determined by their results.
+-- The definitions' results are injective: they determine the answer of the code, and the target of an access.
 use mathlib.Core.Path.{_≡_, refl, sym, ap, _∙_}
 use mathlib.Core.List.{List}
 use Prim.Native.Nat.{ℕ}
@@ -49,7 +49,7 @@ effect-back : (r : Effect) (out : List ℕ) → effectOf (observed r out) ≡ r
 unfolding effectOf
 effect-back r out = rw (answer-back (r .answer))
 
--- two outcomes that are observed alike are equal
+-- two outcomes with equal observations are equal
 pub observed-injective : (r q : Effect) (a b : List ℕ) → observed r a ≡ observed q b → (r ≡ q) × (a ≡ b)
 observed-injective r q a b e =
     (sym (effect-back r a) ∙ ap effectOf e ∙ effect-back q b, ap (λ (x : Observed). x .buffer) e)

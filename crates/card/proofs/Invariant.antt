@@ -1,4 +1,4 @@
--- What every call keeps, and what can come into the cache.
+-- The invariant that every call preserves, and what can enter the cache.
 use mathlib.Core.Path.{_≡_, refl, sym, ap, _∙_}
 use mathlib.Core.Bool.{true}
 use mathlib.Core.List.{List}
@@ -39,12 +39,12 @@ closed-sound : (p : Pages) → p .groups ≡ closedAll → p .allocation ≤ 512
 closed-sound p none few =
     record { groups = rw none none-long; granted = few; within = rw (none, none-usedCredits) (omega arith) }
 
--- a Function that is new, or was reset, is sound,
+-- a new Function, and one after a reset, is sound,
 pub fresh-sound : (id stu : ℕ) (rcb : Rcb) → Sound (fresh id stu rcb)
 fresh-sound id stu rcb =
     record { cache = laws .new-sound; tags = refl; pages = closed-sound switchedOff refl (lit≤ tt) }
 
--- and every call keeps it so
+-- and every call preserves this
 pub sound-invariant : (f : Function) (c : Command) (bytes out : List ℕ) → Sound f → Sound (step f c bytes out .state)
 sound-invariant f c bytes out h = step-keeps f c bytes SoundTables kept out
   where
@@ -70,10 +70,10 @@ sound-invariant f c bytes out h = step-keeps f c bytes SoundTables kept out
           answer = λ k. record { cache = h .cache; tags = h .tags; pages = record { groups = close-long groups all k; granted = h .pages .granted; within = omega (arith, close-le groups all k, h .pages .within) } };
         }
 
--- ---- what comes into the cache
+-- ---- what enters the cache
 
--- an entry that a completion brings when it is received, while its tag is open for a Translation Request
--- that is not stale and E is set
+-- an entry that a received completion brings, while its tag has an outstanding Translation Request
+-- that is not stale, and E is set
 pub record Came (f : Function) (c : Command) (bytes : List ℕ) (e : Entry) : Type 0 where
   pub completion : Completion
   pub comes : Completing c bytes completion
@@ -86,9 +86,10 @@ module _ (f : Function) (c : Command) (bytes out : List ℕ) where
   abbrev slotsAfter : Cache
   slotsAfter = step f c bytes out .state .cache
 
-  -- after a call each slot holds what it held, or nothing, or what came so
+  -- after a call each slot is unchanged, or free, or holds such an entry
   pub slot-after : SoundCache (f .cache) → (i : ℕ)
-      → (entryAt slotsAfter i ≡ entryAt (f .cache) i) ⊎ ((entryAt slotsAfter i ≡ noEntry) ⊎ Came f c bytes (entryAt slotsAfter i))
+      → (entryAt slotsAfter i ≡ entryAt (f .cache) i)
+      ⊎ ((entryAt slotsAfter i ≡ noEntry) ⊎ Came f c bytes (entryAt slotsAfter i))
   slot-after sound i = step-keeps f c bytes (λ d l p. From (entryAt d i)) kept out
     where
       From : Entry → Type 0
@@ -110,13 +111,15 @@ module _ (f : Function) (c : Command) (bytes out : List ℕ) where
             answer = λ k. inl refl;
           }
 
-  -- so that each unit has the entry that it had, or none, or one that came so
+  -- so that each unit has its old entry, or none, or such an entry
   pub entry-after : Sound f → (unit : ℕ)
-      → (found slotsAfter unit ≡ found (f .cache) unit) ⊎ ((found slotsAfter unit ≡ Miss) ⊎ ((x : Entry) × ((found slotsAfter unit ≡ Hit x) × Came f c bytes x)))
+      → (found slotsAfter unit ≡ found (f .cache) unit)
+      ⊎ ((found slotsAfter unit ≡ Miss) ⊎ ((x : Entry) × ((found slotsAfter unit ≡ Hit x) × Came f c bytes x)))
   entry-after h unit = go (found slotsAfter unit) refl
     where
       go : (r : Found) → found slotsAfter unit ≡ r
-          → (found slotsAfter unit ≡ found (f .cache) unit) ⊎ ((found slotsAfter unit ≡ Miss) ⊎ ((x : Entry) × ((found slotsAfter unit ≡ Hit x) × Came f c bytes x)))
+          → (found slotsAfter unit ≡ found (f .cache) unit)
+          ⊎ ((found slotsAfter unit ≡ Miss) ⊎ ((x : Entry) × ((found slotsAfter unit ≡ Hit x) × Came f c bytes x)))
       go Miss e = inr (inl e)
       go (Hit x) e =
           let s = laws .found-is slotsAfter (sound-invariant f c bytes out h .cache) unit x e in

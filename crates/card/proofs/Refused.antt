@@ -26,7 +26,7 @@ use Rattle.card.specs.Numbers.{numbersOf}
 use Rattle.card.specs.Call.{calling, step}
 use Rattle.card.proofs.Cases.{numbersOfKind, Cases, cases}
 
--- A refused call leaves the state and the buffer as they were, and sends nothing.
+-- A refused call leaves the state and the buffer unchanged, and sends nothing.
 pub refused-keeps : (f : Function) (c : Command) (bytes out : List ℕ) (n : ℕ) → step f c bytes out .answer ≡ refusal n
     → (step f c bytes out .state ≡ f) × (step f c bytes out .sent ≡ 0) × (step f c bytes out .buffer ≡ out)
 refused-keeps f c bytes out n = go (calling f c bytes out)
@@ -36,7 +36,7 @@ refused-keeps f c bytes out n = go (calling f c bytes out)
     go (ok d) e = impossible cc
     go (refusal m) e = (refl, refl, refl)
 
--- what is read and then refused is refused with a number of its kind's list, which is part of the call's
+-- a packet that is read and then refused gets a number of its kind's list, which is part of the call's list
 kinds : (b : Body) → everyOne (λ n. isAmong n (numbersOf Receive)) (numbersOfKind b) ≡ true
 kinds (Tr t) = refl
 kinds (Mem m) = refl
@@ -46,7 +46,7 @@ kinds (Ic i) = refl
 kinds (Prq q) = refl
 kinds (Prs s) = refl
 
--- a call that sends is refused for want of room only, where it is not refused before
+-- a call that sends, if it passes its tests, is refused only for lack of room
 fits-call : (f : Function) (bytes out : List ℕ) → Cases f bytes out (λ c s. Among (numbersOf c) s)
 fits-call f bytes out =
     record {
@@ -88,7 +88,7 @@ fits-call f bytes out =
 calling-numbers : (f : Function) (c : Command) (bytes out : List ℕ) → Among (numbersOf c) (calling f c bytes out)
 calling-numbers f c bytes out = cases f bytes out _ (fits-call f bytes out) c
 
--- A call is refused with a number of its own list only,
+-- A call is refused only with a number of its own list,
 pub refused-with : (f : Function) (c : Command) (bytes out : List ℕ) (n : ℕ) → step f c bytes out .answer ≡ refusal n
     → isAmong n (numbersOf c) ≡ true
 refused-with f c bytes out n e = go (calling f c bytes out) (calling-numbers f c bytes out) e
@@ -110,7 +110,7 @@ seventeen (PagesOn allocation) = refl
 seventeen PagesOff = refl
 seventeen (PageRequests q) = refl
 
--- so that it is one of the seventeen
+-- which is one of the seventeen
 pub numbers : (f : Function) (c : Command) (bytes out : List ℕ) (n : ℕ) → step f c bytes out .answer ≡ refusal n
     → (1 ≤ n) × (n ≤ 17)
 numbers f c bytes out n e =

@@ -43,23 +43,23 @@ pub record Completing (c : Command) (bytes : List ℕ) (x : Completion) : Type 0
   pub reads : reading bytes ≡ ok packet
   pub body : packet .body ≡ Cpl x
 
--- P holds of the tables as they are, and after each change that the call can make to them;
--- bytes is the packet received.
+-- P holds for the tables as they are, and after each change that the call can make to them;
+-- bytes is the received packet.
 pub record Stable (f : Function) (c : Command) (bytes : List ℕ) (P : Cache → List TagRow → Pages → Type 0) : Type 0 where
   pub same : P (f .cache) (f .tags) (f .pages)
   pub reset : P blank allFree switchedOff
   -- E set
   pub enable : P (emptied (f .cache)) (allStale (f .tags)) (f .pages)
-  -- a tag opened, freed, or open for less
+  -- a tag taken, freed, or with fewer bytes due
   pub tag : (t : Tag) (o : TagState) → P (f .cache) (setTag (f .tags) t o) (f .pages)
-  -- a completion for a Translation Request that is live
+  -- a completion for a live Translation Request
   pub fill : (x : Completion) (q : PendingTranslation) (o : TagState) → Completing c bytes x
       → tagState (f .tags) (x .tag) ≡ Translate q → isLive f q ≡ true
       → P (applied q (payloadIn bytes) (f .cache)) (setTag (f .tags) (x .tag) o) (f .pages)
   -- an Invalidate Request
   pub invalidate : (range : Range) (i : ITag)
       → P (rangeDropped (f .stu) range (f .cache)) (invalidatedTags range i (f .tags)) (f .pages)
-  -- the page interface on, off, stopped, a request more and a group answered
+  -- the page interface switched on, off or stopped, one more request, and a closed group
   pub switchOn : (allocation : ℕ) → isAllocation allocation ≡ true → P (f .cache) (f .tags) (switchedOn allocation)
   pub switchOff : P (f .cache) (f .tags) switchedOff
   pub stop : P (f .cache) (f .tags) stopped
@@ -107,7 +107,7 @@ module _ (f : Function) (c : Command) (bytes : List ℕ) (P : Cache → List Tag
         stopsPages = λ s a e. does-nothing Over _ _ (k .stop);
       }
 
-  -- then it holds after the call
+  -- then P holds after the call
   pub step-keeps : (out : List ℕ)
       → P (step f c bytes out .state .cache) (step f c bytes out .state .tags) (step f c bytes out .state .pages)
   step-keeps out = commit-in (λ g. P (g .cache) (g .tags) (g .pages)) f out (calling f c bytes out) (k .same) (cases f bytes out _ (each out) c refl)

@@ -13,7 +13,7 @@ use Rattle.call_receive.specs.Receive.{received}
 use Rattle.card.specs.declared.Command.{Command}
 use Rattle.card.specs.declared.Command.the-variants.{Reset, Enable, Disable, Ask, Access, Receive, Drain, PagesOn, PagesOff, PageRequest}
 
--- what a call does: bytes is the packet received or the payload handed in, out the lent buffer
+-- what a call does: bytes is the received packet or the payload to write, out the buffer for the packet to send
 unfoldable pub calling : Function → Command → List ℕ → List ℕ → Result Success
 calling f (Reset a) bytes out = resetting a
 calling f Enable bytes out = enabling f
@@ -26,6 +26,6 @@ calling f (PagesOn allocation) bytes out = switchingOn f allocation (f .pages .i
 calling f PagesOff bytes out = switchingOff f (f .pages .interface)
 calling f (PageRequest q) bytes out = requesting f q out (f .pages .interface)
 
--- and what is seen of it
+-- and its observable result
 abbrev pub step : Function → Command → List ℕ → List ℕ → Observed
 step f c bytes out = commit f out (calling f c bytes out)

@@ -4,8 +4,8 @@ use Prim.Native.Nat.{ℕ}
 use Rattle.card.specs.declared.Command.{Command}
 use Rattle.card.specs.declared.Command.the-variants.{Reset, Enable, Disable, Ask as Asks, Access, Receive, Drain, PagesOn, PagesOff, PageRequest as PageRequests}
 
--- What is proved of a list is that no other number is given; in which order the tests come is
--- what the call's definition says.
+-- It is proved that a call is refused with no other number. The order of the tests is given
+-- by the definition of the call.
 abbrev pub numbersOf : Command → List ℕ
 numbersOf (Reset a) = 12 ∷ []
 numbersOf Enable = []

@@ -1,4 +1,4 @@
--- What holds of the tables in every state that calls reach. 01, "The Function's tables".
+-- The invariant of the tables in every reachable state. 01, "The Function's tables".
 use mathlib.Core.Path.{_≡_}
 use mathlib.Core.List.{List}
 use Prim.Native.Nat.{_≤_}
@@ -10,7 +10,7 @@ use Rattle.pages.specs.declared.Pages.{Pages}
 use Rattle.pages.specs.Pages.{usedCredits}
 use Rattle.state.specs.declared.Function.{Function}
 
--- 32 groups, and no more credits in use than the allocation, which is 512 at most
+-- 32 groups, and at most as many credits in use as allocated; at most 512 are allocated
 pub record SoundPages (p : Pages) : Type 0 where
   pub groups : length (p .groups) ≡ 32
   pub granted : p .allocation ≤ 512

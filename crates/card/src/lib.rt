@@ -1,4 +1,4 @@
-// The Function as its users see it: every call, and the one entry over them all.
+// The public interface of the Function: every call, and one entry point for all of them.
 pub use call_access::AccessArgs;
 pub use call_access::Direction;
 pub use call_access::Goes;
@@ -34,8 +34,7 @@ ghost use mathlib.Core.Path.{_≡_};
 ghost use Rattle.state.specs.Answers.{observed};
 ghost use Rattle.card.specs.Call.{step};
 
-// A call with its arguments. The bytes of a packet that is received, or of an access's payload,
-// come beside it.
+// A call with its arguments. A received packet, or the payload of an access, is passed separately.
 pub enum Command {
     Reset(ResetArgs),
     Enable,
@@ -49,7 +48,7 @@ pub enum Command {
     PageRequest(PageRequest),
 }
 
-// Any call on any state.
+// Makes any call on any state.
 pub fn call(f: Function, c: Command, bytes: &[u8], out: &mut [u8]) -> Effect
     ensures { λ r. ⌜ observed r (now (out .exit)) ≡ step f c (now (bytes .entry)) (now (out .entry)) ⌝ }
 {

@@ -1,5 +1,5 @@
--- What the third demand needs of a machine: what each call does to six views of the state,
--- in terms of what is seen of it.
+-- What the third demand needs of a machine: how each call changes six views of the state, in
+-- terms of what the observer sees.
 use mathlib.Core.Path.{_≡_}
 use mathlib.Core.Logic.{_⊎_}
 use mathlib.Core.Bool.{Bool, true, false, not, _&&_}
@@ -9,15 +9,15 @@ use lib.Dec.{eqb}
 use Rattle.demand3.specs.Demand.{Terms, Ticket, Taken, CPL, INV, DRAIN, Seen, Pending, translation, fetch, given, noneBelow, isOpen, leaves, onTaken, onSent, uses, reaches, readIn, accepts, drains, completes, gave}
 
 pub record View (T : Terms) : Type 0 where
-  -- what slot j of the cache holds
+  -- the content of slot j of the cache
   pub held : ℕ → Option (T .Entry)
-  -- the open request of tag t; and it is a Translation Request that is not stale
+  -- the open request of tag t; and whether it is a Translation Request that is not stale
   pub opens : ℕ → Option (Pending T)
   pub live : ℕ → Bool
-  -- a ticket waits, and for which tags
+  -- whether a ticket waits, and for which tags
   pub waiting : Ticket → Bool
   pub waitsFor : Ticket → ℕ → Bool
-  -- whose Invalidate Requests were accepted
+  -- the agent whose Invalidate Requests were accepted
   pub agent : Option ℕ
 
 module _ {T : Terms} where
@@ -28,7 +28,7 @@ module _ {T : Terms} where
   ends t (some (INV i a)) o = false
   ends t (some (DRAIN n)) o = false
 
-  -- the call brings data that grant e, for a Translation Request that is not stale
+  -- the call delivers data that grant e, for a Translation Request that is not stale
   abbrev pub fills : View T → Option (Taken T) → T .Entry → Bool
   fills v none e = false
   fills v (some (CPL t none)) e = false
@@ -43,14 +43,14 @@ module _ {T : Terms} where
       (k : ℕ) (d : T .Data) (e : T .Entry) → T .grants q k d e ≡ true → T .overlaps a e ≡ false
   Apart a (some (fetch x b n)) = Unit {0}
 
--- an entry that is held serves the access
+-- an entry of the cache serves the access
 pub record Through {T : Terms} (v : View T) (b : T .Access) (k : ℕ) : Type 0 where
   pub slot : ℕ
   pub entry : T .Entry
   pub held : v .held slot ≡ some entry
   pub serves : T .serves entry b k ≡ true
 
--- what a call of which x is seen does
+-- the effect of a call of which the observer sees x
 pub record Step {T : Terms} (tags : ℕ) (v w : View T) (x : Seen T) : Type 0 where
   -- the tags
   pub opens : (t : ℕ) → w .opens t ≡ onSent t (x .sent) (onTaken t (x .took) (v .opens t))
@@ -66,7 +66,7 @@ pub record Step {T : Terms} (tags : ℕ) (v w : View T) (x : Seen T) : Type 0 wh
       → w .waitsFor i t ≡ given (accepts i (x .took)) (λ a. isOpen (readIn a (v .opens t))) (not (ends t (x .took) (v .opens t)) && v .waitsFor i t)
   pub carried : (i : Ticket)
       → completes i (x .sent) ≡ (drains i (x .took) && (v .waiting i && noneBelow tags (v .waitsFor i)))
-  -- the agent: the one who sent the request, and no other later
+  -- the agent: the sender of the first accepted request, and no other later
   pub first : (i : Ticket) (a : T .Area) → accepts i (x .took) ≡ some a → w .agent ≡ some (i .agent)
   pub lasts : (g : ℕ) → v .agent ≡ some g → w .agent ≡ some g
   -- an accepted Invalidate Request

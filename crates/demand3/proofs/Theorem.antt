@@ -1,4 +1,4 @@
--- The laws give the third demand. Shown once, for every machine.
+-- The laws imply the third demand, for every machine.
 use mathlib.Core.Path.{_≡_, refl, sym, ap, _∙_}
 use mathlib.Core.Logic.{_⊎_, inl, inr}
 use mathlib.Core.Bool.{Bool, true, false, not, cond, _&&_, _||_, and-false, or-true}
@@ -14,7 +14,7 @@ use Rattle.lemmas.proofs.Cases.{byCases, either-case, and-both}
 use Rattle.lemmas.proofs.Bools.{no-tf, no-some, cond-same}
 use Rattle.demand3.proofs.Laws.{View, Step, ends, fills, Apart}
 
--- ---- numbers below n, truth values
+-- ---- numbers below n, and Booleans
 
 pub none-cong : (n : ℕ) (f g : ℕ → Bool) → ((t : ℕ) → f t ≡ g t) → noneBelow n f ≡ noneBelow n g
 none-cong zero f g e = refl
@@ -63,7 +63,7 @@ module _ {T : Terms} where
   taken-was t k none e = no-tf (sym (rw (taken-none t k) at e))
   taken-was t k (some o) e = refl
 
-  -- what does not end stays open, and what ends does not
+  -- a request that does not end stays open, and one that ends does not
   taken-stays : (t : ℕ) (k : Option (Taken T)) (o : Option (Pending T))
       → isOpen (onTaken t k o) ≡ (not (ends t k o) && isOpen o)
   taken-stays t k none = rw (taken-none t k) (sym (and-false (not (ends t k none))))
@@ -142,7 +142,7 @@ module _ {T : Terms} where
 -- ---- one call
 
 module _ {T : Terms} (tags : ℕ) where
-  -- The views say what the history says.
+  -- The views agree with the history.
   pub record Told (v : View T) (h : List (Seen T)) : Type 0 where
     pub opens : (t : ℕ) → openAt t h ≡ v .opens t
     pub inside : (t : ℕ) → isOpen (v .opens t) ≡ true → t < tags
@@ -153,12 +153,12 @@ module _ {T : Terms} (tags : ℕ) where
     pub agent : (i : Ticket) → 0 < requests i h → v .agent ≡ some (i .agent)
 
   module _ (v w : View T) (x : Seen T) (q : Step tags v w x) where
-    -- a tag that is open is not sent again
+    -- the tag of an open request is not used for another
     stays : (t : ℕ) → isOpen (v .opens t) ≡ true → w .opens t ≡ onTaken t (x .took) (v .opens t)
     stays t o = byCases (uses t (x .sent)) (λ p. no-tf (sym o ∙ ap isOpen (q .unused t p .1)))
         (λ p. q .opens t ∙ sent-other t (x .sent) (onTaken t (x .took) (v .opens t)) p)
 
-    -- a ticket that waits, by an old request or by this one
+    -- a ticket that waits, because of an old request or of this one
     was : (i : Ticket) → accepts i (x .took) ≡ none → w .waiting i ≡ true → v .waiting i ≡ true
     was i n e = and-both (not (completes i (x .sent))) (v .waiting i) (rw n at (rw (q .waiting i) at e)) .1
 
@@ -188,7 +188,8 @@ module _ {T : Terms} (tags : ℕ) where
           go none n = rw (R .older i t (was i n e)) (byCases (v .waitsFor i t) (λ p. rw p (noted (R .noted i t (was i n e) p))) (λ p. rw (p, and-false) (taken-none t (x .took))))
             where
               noted : isOpen (v .opens t) ≡ true
-                  → onTaken t (x .took) (v .opens t) ≡ cond (not (ends t (x .took) (v .opens t)) && true) (w .opens t) none
+                  → onTaken t (x .took) (v .opens t)
+                  ≡ cond (not (ends t (x .took) (v .opens t)) && true) (w .opens t) none
               noted o = byCases (ends t (x .took) (v .opens t)) (λ p. rw p (shut _ (rw p at (taken-stays t (x .took) (v .opens t))))) (λ p. rw p (sym (stays t o)))
 
       told-noted : (i : Ticket) (t : ℕ) → w .waiting i ≡ true → w .waitsFor i t ≡ true → isOpen (w .opens t) ≡ true
@@ -235,10 +236,10 @@ module _ {T : Terms} (tags : ℕ) where
         agent = told-agent;
       }
 
-  -- An Invalidate Request of ticket i and area a was accepted; old t is the overlapping translated read of tag t that
-  -- was then open. h was seen since.
+  -- An Invalidate Request with ticket i and area a was accepted; old t is the overlapping translated read of tag t that
+  -- was open then. h is the history since.
   module _ (i : Ticket) (a : T .Area) (old : ℕ → Option (Pending T)) where
-    -- while such a read is open: it is the one in the table, the ticket waits for it, and no completion was sent
+    -- while such a read is open: it is the open request of its tag, the ticket waits for it, and no completion was sent
     pub record Held (v : View T) (h : List (Seen T)) (t : ℕ) : Type 0 where
       pub unsent : completions i h ≡ 0
       pub waiting : v .waiting i ≡ true
@@ -292,7 +293,7 @@ module _ {T : Terms} (tags : ℕ) where
       since : Since w (x ∷ h)
       since = record { tickets = new-ticket; reads = still-held }
 
-      -- an entry that overlaps the area is an old one, or the data that brought it are for a request sent since
+      -- an overlapping entry is an old one, or came from a Translation Request sent since
       filled : (e : T .Entry) (k : Option (Taken T)) → T .overlaps a e ≡ true → fills v k e ≡ true → brings e k h ≡ true
       filled e none o f = f
       filled e (some (CPL t none)) o f = f
@@ -331,8 +332,8 @@ pub record Blank {T : Terms} (v : View T) : Type 0 where
   pub opens : (t : ℕ) → v .opens t ≡ none
   pub waiting : (i : Ticket) → v .waiting i ≡ false
 
--- Views of a machine's states that its calls keep the laws of. Ok: what holds of every state that is reached from
--- an accepted reset or from new.
+-- Views of a machine's states whose laws its calls satisfy. Ok: the invariant of every state that is reached from an
+-- accepted reset or from a new machine.
 pub record Lawful {T : Terms} {R : Observer T} (M : Machine R) : Type 1 where
   pub view : Bench M → View T
   pub held : (s : Bench M) (j : ℕ) → M .held (s .fn) j ≡ view s .held j
@@ -347,7 +348,7 @@ pub record Lawful {T : Terms} {R : Observer T} (M : Machine R) : Type 1 where
   pub reset : (s : Bench M) (c : R .Call) → resets M s c ≡ true → Ok (next M s c) × Blank (view (next M s c))
   pub new : Ok (record { fn = M .new; notes = R .atFirst }) × Blank (view (record { fn = M .new; notes = R .atFirst }))
 
--- one of the calls cs brought the entry
+-- one of the calls cs delivered the entry
 module _ {T : Terms} {R : Observer T} (M : Machine R) where
   abbrev pub broughtIn : T .Entry → Bench M → List (R .Call) → Bool
   broughtIn e s [] = false
@@ -370,13 +371,13 @@ module _ {T : Terms} {R : Observer T} (M : Machine R) (L : Lawful M) where
   effect s cs c k u = L .law (stateAfter M s cs) c (u .0) (ok-run s cs k (u .1))
 
   module _ (s : Bench M) (k : L .Ok s) where
-    -- from any state whose views a history g tells
+    -- from any state whose views agree with a history g
     told-from : (g : List (Seen T)) → Told (R .tags) (L .view s) g → (cs : List (R .Call)) → Unbroken M s cs
         → Told (R .tags) (L .view (stateAfter M s cs)) (history M s cs ++ g)
     told-from g D [] u = D
     told-from g D (c ∷ cs) u = told (R .tags) _ _ (seen M (stateAfter M s cs) c) (effect s cs c k u) (history M s cs ++ g) (told-from g D cs (u .1))
 
-    -- since a request of ticket i and area a
+    -- since a request with ticket i and area a
     module _ (i : Ticket) (a : T .Area) (old : ℕ → Option (Pending T)) (g : List (Seen T)) (D : Told (R .tags) (L .view s) g)
         (I : Since (R .tags) i a old (L .view s) []) (none-yet : (j : ℕ) (e : T .Entry) → L .view s .held j ≡ some e → T .overlaps a e ≡ false) where
       since-from : (cs : List (R .Call)) → Unbroken M s cs
@@ -391,7 +392,8 @@ module _ {T : Terms} {R : Observer T} (M : Machine R) (L : Lawful M) where
       came-from (c ∷ cs) u j e o p = go (came-from cs (u .1) j e o) (effect s cs c k u .entries j e (sym (L .held (next M (stateAfter M s cs) c) j) ∙ p))
         where
           go : (M .held (stateAfter M s cs .fn) j ≡ some e → CameFrom M j e s cs)
-              → (L .view (stateAfter M s cs) .held j ≡ some e) ⊎ (fills (L .view (stateAfter M s cs)) (seen M (stateAfter M s cs) c .took) e ≡ true)
+              → (L .view (stateAfter M s cs) .held j ≡ some e)
+              ⊎ (fills (L .view (stateAfter M s cs)) (seen M (stateAfter M s cs) c .took) e ≡ true)
               → CameFrom M j e s (c ∷ cs)
           go f (inl y) = inr (L .held (stateAfter M s cs) j ∙ y, f (L .held (stateAfter M s cs) j ∙ y))
           go f (inr y) = inl (filled (R .tags) i a old _ _ (seen M (stateAfter M s cs) c) (effect s cs c k u) (history M s cs ++ g) (history M s cs)
@@ -417,7 +419,7 @@ module _ {T : Terms} {R : Observer T} (M : Machine R) (L : Lawful M) where
       old : ℕ → Option (Pending T)
       old t = readIn a (openAt t (history M s before))
 
-      -- the request's moment
+      -- the moment of the request
       now : Bench M
       now = stateAfter M s (c ∷ before)
 
@@ -441,7 +443,7 @@ module _ {T : Terms} {R : Observer T} (M : Machine R) (L : Lawful M) where
       unfolding now
       new-entries j e p o = came-from now now-ok i a old (history M s (c ∷ before)) now-told now-since (its .dropped i a (z .accepted)) since (z .goesOn) j e o p
 
-      -- an old read that is open still holds the completion back
+      -- an old read that is still open delays the completion
       held-back : (t : ℕ)
           → isOpen (remains t (history M (stateAfter M s (c ∷ before)) since) (readIn a (openAt t (history M s before)))) ≡ true
           → completions i (history M (stateAfter M s (c ∷ before)) since) ≡ 0

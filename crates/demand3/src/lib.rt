@@ -1,1 +1,2 @@
-// Demand 3, for any machine whose calls can be seen: definitions in specs/ and theorems in proofs/ only.
+// Demand 3, for any machine whose calls are observed. Definitions in specs/ and
+// theorems in proofs/ only.

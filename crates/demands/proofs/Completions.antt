@@ -1,4 +1,4 @@
--- A completion that is taken: what it leaves of its tag, and what it brings into the cache.
+-- An accepted completion: the new state of its tag, and what it brings into the cache.
 use mathlib.Core.Path.{_≡_, refl, sym, ap, _∙_}
 use mathlib.Core.Logic.{_⊎_, inl}
 use mathlib.Core.Bool.{Bool, true, false, not, cond, _&&_}
@@ -37,7 +37,7 @@ use Rattle.demands.proofs.Tags.{left, at-own, at-other}
 use Rattle.tlp.proofs.Qwords.{base-lt}
 use Rattle.translations.proofs.Parts.{one-size, came-by}
 
--- ---- what a reply brings is what its bytes give
+-- ---- the entries of a reply are those that its bytes grant
 
 pub same-self : (x : Entry) → sameEntry x x ≡ true
 same-self x = rw (beq-same (x .used), beq-same (x .r), beq-same (x .w), beq-same (x .n), beq-same (x .u), eq-eqb (x .unit) (x .unit) refl, eq-eqb (x .to) (x .to) refl)
@@ -63,20 +63,20 @@ module _ (q : PendingTranslation) (load : List ℕ) (fit : translationsFit q loa
       → isReplied (askedBy q) (q .whole - q .due) (record { count = count; load = load }) (record { stu = stu; entry = x }) ≡ true
   brought-replied count = rw (eq-eqb stu stu refl, in-range, ← came-by q) granted
 
--- and its translated address lies in 64 bits
+-- and the translated address fits 64 bits
 pub brought-to : (q : PendingTranslation) (load : List ℕ) (x : Entry) → Bytes load → Brought q load x → x .to < 2 ^ 64
 brought-to q load x h b =
     let t = translationAt load (b .word) in
     let to : x .to ≡ cond (t .u) 0 (relocated (t .base) (x .unit) (exponentOr0 (commonSize q load))) = ap (λ (y : Entry). y .to) (b .given) in
     rw to (byCases (t .u) (λ u. rw u (lit≤ tt)) (λ u. rw u (relocated-lt (t .base) (x .unit) _ (base-lt load h (b .word)))))
 
--- ---- a tag that a completion is for
+-- ---- the tag of a completion
 
 module _ (me : Noted) (f : Function) (o : Ok me f) (t : Tag) (own : isTag t ≡ true) (b : TagState) (is : tagState (f .tags) t ≡ b) where
   was : (u : Tag) → eqb (u .0) (t .0) ≡ true → tagState (f .tags) u ≡ b
   was u e = let same : u ≡ t = ap (λ (k : ℕ). record { 0 = k }) (eqb-true (u .0) (t .0) e) in rw same is
 
-  -- what it does to E and the cache, and what the tag is open for then
+  -- what it does to E and the cache, and the new state of the tag
   module _ (enabled : Bool) (cache : Cache) (after : TagState) where
     pub left-step : (d : Option Reply) → pendingOf after ≡ leaves d (pendingOf b)
         → (liveOf after ≡ true → liveOf b ≡ true)

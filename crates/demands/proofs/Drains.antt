@@ -1,4 +1,4 @@
--- Drain: a completion goes out for exactly the ITags that wait and are waited for by no open read.
+-- Drain: a completion is sent for exactly the waiting ITags that no outstanding read delays.
 use mathlib.Core.Path.{_≡_, refl, sym, ap, _∙_}
 use mathlib.Core.Logic.{inl}
 use mathlib.Core.Bool.{Bool, true, false, not, _&&_, and-false}
@@ -58,16 +58,16 @@ module _ (tags : List TagRow) (i : ITag) (all : length tags ≡ 32) where
   a-tag : (h : Delaying tags i) → isTag (h .tag) ≡ true
   a-tag h = tagState-tag tags (h .tag) (λ e. let free : Free ≡ Read (h .read) = sym e ∙ h .state in impossible cc)
 
-  -- it waits for none of the 32 exactly where none delays it
+  -- it waits for none of the 32 if and only if none delays it
   pub none-delayed : noneBelow 32 (λ t. isIn (delayedBy (tagState tags (tag t))) i) ≡ not (isIn (delayedItags tags) i)
   none-delayed = byCases (isIn (delayedItags tags) i) (λ e. rw e (held (delayed-exactly tags i all .0 e))) (λ e. rw e (none-all 32 _ (λ t k. is-false _ (λ n. never-both _ (delayed-by-read (tag t) n) e))))
     where
       held : Delaying tags i → noneBelow 32 (λ t. isIn (delayedBy (tagState tags (tag t))) i) ≡ false
       held h = none-not 32 (λ t. isIn (delayedBy (tagState tags (tag t))) i) (h .tag .0) (ltb-true (h .tag .0) 32 (a-tag h)) (rw (h .state) (h .delays))
 
--- ---- truth values
+-- ---- Booleans
 
--- e: it is the agent's; l: it has a number below 32; w: it waits; n: a read delays it
+-- e: it is the agent's; l: its number is below 32; w: it waits; n: a read delays it
 regroup : (e l w n : Bool) → (e && (l && (w && not n))) ≡ ((e && (l && w)) && not n)
 regroup true true w n = refl
 regroup true false w n = refl
@@ -91,7 +91,8 @@ module _ (me : Noted) (f : Function) (o : Ok me f) (bytes out : List ℕ) (ty : 
   left = withWaiting f (without (f .waiting) (readyOf f))
 
   left-in : (i : ITag)
-      → isIn (left .waiting) i ≡ (isIn (f .waiting) i && not (isIn (f .waiting) i && not (isIn (delayedItags (f .tags)) i)))
+      → isIn (left .waiting) i
+      ≡ (isIn (f .waiting) i && not (isIn (f .waiting) i && not (isIn (delayedItags (f .tags)) i)))
   left-in i = in-without (f .waiting) (readyOf f) i ∙ ap (λ (r : Bool). isIn (f .waiting) i && not r) (ready-in i)
 
   left-ok : Ok me left
@@ -114,7 +115,7 @@ module _ (me : Noted) (f : Function) (o : Ok me f) (bytes out : List ℕ) (ty : 
       → noneBelow 32 (view f .waitsFor i) ≡ not (isIn (delayedItags (f .tags)) (itag (i .number)))
   waits-for-none i = none-delayed (f .tags) (itag (i .number)) (o .tags)
 
-  -- an ITag that nobody has sent yet is not ready
+  -- while the agent is unknown no ITag waits
   unknown : f .agent ≡ Unknown → (i : ITag) → isIn (f .waiting) i ≡ false
   unknown e i = is-false _ (λ w. o .known i w e)
 

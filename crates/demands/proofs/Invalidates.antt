@@ -1,5 +1,5 @@
--- An Invalidate Request that is accepted: entries are dropped, requests marked stale and reads
--- made to delay the ITag, at once.
+-- An accepted Invalidate Request: entries are deleted, Translation Requests become stale and
+-- reads delay the ITag, in one step.
 use mathlib.Core.Path.{_≡_, refl, sym, ap, _∙_}
 use mathlib.Core.Logic.{inl}
 use mathlib.Core.Bool.{Bool, true, false, not, cond, _&&_, _||_, and-false, or-true}
@@ -33,7 +33,7 @@ use Rattle.demands.specs.Demands.{Cached, terms, Noted, itag, isListed, 
 use Rattle.demands.proofs.Views.{tag, pendingOf, liveOf, agentOf, isAgent, view, Ok, no-entry}
 use Rattle.demands.proofs.Marks.{invalidate-pending, invalidate-live, invalidate-delayed, invalidate-apart}
 
--- what a slot holds is its entry, in use
+-- the content of a slot is its entry, in use
 pub held-entry : (stu : ℕ) (x : Entry) (e : Cached)
     → cond {A = Option Cached} (x .used) (some (record { stu = stu; entry = x })) none ≡ some e
     → (x .used ≡ true) × (record { stu = stu; entry = x } ≡ e)
@@ -69,7 +69,8 @@ module _ (me : Noted) (f : Function) (o : Ok me f) (from : ℕ) (i : InvalidateR
   at-tag t = tagState-invalidated range (i .itag) (f .tags) t
 
   slot-is : (j : ℕ)
-      → entryAt (gone .cache) j ≡ cond (entryOverlaps (f .stu) range (entryAt (f .cache) j)) noEntry (entryAt (f .cache) j)
+      → entryAt (gone .cache) j
+      ≡ cond (entryOverlaps (f .stu) range (entryAt (f .cache) j)) noEntry (entryAt (f .cache) j)
   slot-is j = laws .range-entry (f .stu) range (f .cache) (o .cache) j
 
   slot-dropped : (j : ℕ) → entryOverlaps (f .stu) range (entryAt (f .cache) j) ≡ true
@@ -83,7 +84,7 @@ module _ (me : Noted) (f : Function) (o : Ok me f) (from : ℕ) (i : InvalidateR
   apart : (j : ℕ) → entryOverlaps (f .stu) range (entryAt (gone .cache) j) ≡ false
   apart j = rw (slot-is j) (byCases (entryOverlaps (f .stu) range (entryAt (f .cache) j)) (λ u. rw u) (λ u. rw u u))
 
-  -- a marked Translation Request has come as far as it had
+  -- a Translation Request that becomes stale keeps its progress
   invalidated-begun : (t : Tag) (q : PendingTranslation) (x : TagState) → tagState (f .tags) t ≡ x
       → invalidatedIf range (i .itag) x ≡ Translate q → (q .stu ≡ f .stu) × (q .due ≡ 0 → q .whole ≡ 0)
   invalidated-begun t q x h e =
@@ -121,7 +122,7 @@ module _ (me : Noted) (f : Function) (o : Ok me f) (from : ℕ) (i : InvalidateR
       still false w true x h e = or-true w
       still false w false x h e = no-tf (sym e)
 
-  -- who else waited is the agent's: there was none, or it is this one
+  -- any other waiting ticket has the same agent: there was none before, or it is this one
   agreed : (k : Ticket) → isIn (f .waiting) (itag (k .number)) ≡ true
       → isAgent (Known from) (k .agent) ≡ isAgent (f .agent) (k .agent)
   agreed k w = go (f .agent) refl ours
@@ -163,7 +164,8 @@ module _ (me : Noted) (f : Function) (o : Ok me f) (from : ℕ) (i : InvalidateR
       whose false = refl
 
       theirs : eqb (k .number) (bitIndex (i .itag)) ≡ false
-          → (eqb (k .agent) from && isListed (f .waiting) (k .number)) ≡ (isAgent (f .agent) (k .agent) && isListed (f .waiting) (k .number))
+          → (eqb (k .agent) from && isListed (f .waiting) (k .number))
+          ≡ (isAgent (f .agent) (k .agent) && isListed (f .waiting) (k .number))
       theirs e = byCases (isListed (f .waiting) (k .number))
           (λ w. ap (λ (b : Bool). b && isListed (f .waiting) (k .number)) (agreed k (and-both (ltb (k .number) 32) _ w .1)))
           (λ w. rw w (and-false (eqb (k .agent) from) ∙ sym (and-false (isAgent (f .agent) (k .agent)))))

@@ -1,4 +1,4 @@
--- What stale marks, delays and openings do to a tag.
+-- How stale marks, delays and new requests change a tag.
 use mathlib.Core.Path.{_≡_, refl, sym, ap, _∙_}
 use mathlib.Core.Bool.{Bool, true, false, _&&_, _||_, and-false}
 use mathlib.Core.Option.{some}
@@ -22,7 +22,7 @@ use Rattle.demand3.proofs.Laws.{Apart}
 use Rattle.demands.specs.Demands.{Cached, Reply, terms, isReplied}
 use Rattle.demands.proofs.Views.{askedBy, pendingOf, liveOf}
 
--- ---- E set: every Translation Request goes stale
+-- ---- setting E: every Translation Request becomes stale
 
 -- a stale request is for the same units
 stale-translation : (q : PendingTranslation) → pendingOf (Translate (staleTranslation q)) ≡ pendingOf (Translate q)
@@ -45,7 +45,7 @@ stale-delayed (Read r) = refl
 
 -- ---- an Invalidate Request
 
--- what holds a range that overlaps another overlaps it too
+-- a range that contains an overlapping range overlaps too
 within-overlaps : (a b c : Range) → isWithin a b ≡ true → overlaps a c ≡ true → overlaps b c ≡ true
 within-overlaps a b c w m =
     let x = and-both (leb (b .first) (a .first)) (leb (a .last) (b .last)) w in
@@ -71,9 +71,10 @@ module _ (range : Range) (i : ITag) where
       dead (Translate q) = refl
       dead (Read r) = refl
 
-  -- a read that overlaps delays it; where it was not, and another ITag, nothing changes
+  -- an overlapping read delays the ITag; for another read, or another ITag, nothing changes
   pub invalidate-delayed : (o : TagState) (k : ITag)
-      → isIn (delayedBy (invalidatedIf range i o)) k ≡ (isIn (delayedBy o) k || (eqb (bitIndex i) (bitIndex k) && isOpen (readIn {T = terms} range (pendingOf o))))
+      → isIn (delayedBy (invalidatedIf range i o)) k
+      ≡ (isIn (delayedBy o) k || (eqb (bitIndex i) (bitIndex k) && isOpen (readIn {T = terms} range (pendingOf o))))
   invalidate-delayed Free k = byCases (pendingOverlaps range Free) (λ u. rw (u, in-none k) (sym (and-false (eqb (bitIndex i) (bitIndex k))))) (λ u. rw (u, in-none k) (sym (and-false (eqb (bitIndex i) (bitIndex k)))))
   invalidate-delayed (Translate q) k = byCases (pendingOverlaps range (Translate q)) (λ u. rw (u, in-none k) (sym (and-false (eqb (bitIndex i) (bitIndex k))))) (λ u. rw (u, in-none k) (sym (and-false (eqb (bitIndex i) (bitIndex k)))))
   invalidate-delayed (Read r) k = rw (← overlaps-read range r) (byCases (pendingOverlaps range (Read r)) (λ u. rw u (in-withItag (r .itags) i k ∙ yes (eqb (bitIndex i) (bitIndex k)) (isIn (r .itags) k))) (λ u. rw u (not-met (eqb (bitIndex i) (bitIndex k)) (isIn (r .itags) k))))
@@ -88,7 +89,7 @@ module _ (range : Range) (i : ITag) where
       not-met false true = refl
       not-met false false = refl
 
-  -- what a Translation Request that stays live can give lies outside the range
+  -- what a Translation Request that stays live can grant is outside the range
   pub invalidate-apart : (o : TagState) → liveOf (invalidatedIf range i o) ≡ true
       → Apart range (pendingOf (invalidatedIf range i o))
   invalidate-apart o e = rw (invalidate-pending o) (go o (invalidate-live o e .1))

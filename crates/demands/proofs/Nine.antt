@@ -1,4 +1,4 @@
--- An Invalidate Request is refused with 9 exactly while its ITag waits, read from the calls.
+-- An Invalidate Request is refused with 9 if and only if its ITag waits, as computed from the history.
 use mathlib.Core.Path.{_≡_, refl, sym, _∙_}
 use mathlib.Core.Logic.{_↔_}
 use mathlib.Core.Bool.{true, false, not, cond, _&&_}
@@ -32,7 +32,8 @@ module _ (me : Noted) (f : Function) (o : Ok me f) (out : List ℕ) (from : ℕ)
   listed : isListed (f .waiting) (bitIndex (i .itag)) ≡ isIn (f .waiting) (i .itag)
   listed = rw (lt-ltb (bitIndex (i .itag)) 32 (place-lt (i .itag))) (in-bitIndex (f .waiting) (i .itag))
 
-  nine : (commit f out (invalidated f from i) .answer ≡ refusal 9) ↔ ((isAgent (f .agent) from && isListed (f .waiting) (bitIndex (i .itag))) ≡ true)
+  nine : (commit f out (invalidated f from i) .answer ≡ refusal 9)
+      ↔ ((isAgent (f .agent) from && isListed (f .waiting) (bitIndex (i .itag))) ≡ true)
   unfolding invalidated
   nine = rw listed (go (f .agent) refl)
     where

@@ -1,4 +1,4 @@
--- The card keeps demand 3.
+-- The card satisfies demand 3.
 use mathlib.Core.Path.{_≡_, refl, sym, ap, _∙_}
 use mathlib.Core.Bool.{Bool, true, false, not, cond, _&&_}
 use mathlib.Core.List.{List, []}
@@ -44,7 +44,7 @@ use Rattle.card.proofs.Cases.{Cases, cases}
 
 module _ (me : Noted) (f : Function) (o : Ok me f) where
   module _ (bytes out : List ℕ) (are : areBytes bytes ≡ true) where
-    -- a call that is not an accepted reset keeps what holds, and does what is seen of it
+    -- a call that is not an accepted reset preserves the invariant, and changes the views as the observer sees
     abbrev Keeps : Command → Result Success → Type 0
     Keeps x s =
         (ty : isTyped x ≡ true) → (not (isRefused (commit f out s .answer)) && isReset x) ≡ false
@@ -88,7 +88,7 @@ module _ (me : Noted) (f : Function) (o : Ok me f) where
       → Does (Good me f (record { command = x; bytes = bytes; out = out; typed = ty; octets = are })) (calling f x bytes out)
   good x bytes out ty are u = cases f bytes out _ (each bytes out are) x ty u
 
-  -- what a call leaves, and what is seen of it; a refused one leaves all as it was, and shows nothing
+  -- the state after a call, and what the observer sees; a refused call changes nothing, and the observer sees nothing
   pub record Done (c : Call) (r : Observed) : Type 0 where
     pub ok : Ok me (r .state)
     pub step : Step 32 (view f) (view (r .state))
@@ -107,7 +107,7 @@ module _ (me : Noted) (f : Function) (o : Ok me f) where
   done c (refusal n) h =
       record { ok = o; step = rw nothing-reads (quiet (view f)); legible = refl; apart = λ i a e. refl }
 
--- ---- a Function that is reset, or new
+-- ---- a Function after a reset, or new
 
 pub fresh-ok : (id stu : ℕ) (rcb : Rcb) → id < 65536 → Ok (record { id = id; stu = stu }) (fresh id stu rcb)
 fresh-ok id stu rcb h =
@@ -198,7 +198,7 @@ lawful =
 pub keeps-order : Order card
 keeps-order = order card lawful
 
--- what a run reaches, and which ITags wait then
+-- the states that a run reaches, and which ITags wait there
 module _ (begin : Bench card) (b : lawful .Ok begin × Blank (lawful .view begin)) (calls : List Call) (u : Unbroken card begin calls) where
   pub ran-ok : Ok (stateAfter card begin calls .notes) (stateAfter card begin calls .fn)
   unfolding lawful

@@ -1,4 +1,4 @@
--- The three demands are met. Nothing is assumed.
+-- The three demands are proved, without assumptions.
 use Rattle.tlp.proofs.Forbidden.{reads-by-phrases, writes-by-phrases}
 use Rattle.tlp.proofs.RoundTrips.{written-reads, written-payload, read-written, read-writes}
 use native.Mathlib.Omega.{arith}

@@ -1,4 +1,4 @@
--- Receiving: each packet that is taken keeps what holds, and does what is seen of it.
+-- Receiving: each accepted packet preserves the invariant, and changes the views as the observer sees.
 use mathlib.Core.Path.{_≡_, refl, sym, ap, _∙_}
 use mathlib.Core.Logic.{_⊎_, inl, inr, ⊎-elim}
 use mathlib.Core.Bool.{Bool, true, false, cond, _&&_, and-false}
@@ -87,7 +87,7 @@ module _ (me : Noted) (f : Function) (o : Ok me f) (bytes out : List ℕ) (ty : 
       own : isTag t ≡ true
       own = tagState-tag (f .tags) t used
 
-      -- the cache stays
+      -- the cache is unchanged
       same-cache : (d : Option Reply) → outcomeTaken (t .0) (c .count) load (c .outcome) ≡ some (CPL (t .0) d)
           → (enabled : Bool) (after : TagState) (w : Unrefused) → pendingOf after ≡ leaves d (pendingOf b)
           → (liveOf after ≡ true → liveOf b ≡ true)
@@ -181,7 +181,7 @@ module _ (me : Noted) (f : Function) (o : Ok me f) (bytes out : List ℕ) (ty : 
           → Does (Good me f receive-call) (sendsNothing (withEnable (withTag f t Free) false) switchedOff)
       good-switches status x z = frees (Translate q) holds asks-used none (rw (x, z) refl) false _ refl
 
-      -- a first packet of two leaves the rest due; the last, and the only one, leave nothing
+      -- after the first of two packets the rest is due; after the last, or the only one, nothing is
       module _ (dwords : ℕ) (x : c .outcome ≡ Data dwords) where
         given : outcomeTaken (t .0) (c .count) load (c .outcome) ≡ some (CPL (t .0) (some reply))
         given = rw x refl

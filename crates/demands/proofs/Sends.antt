@@ -1,4 +1,5 @@
--- The calls that change no tag and no entry, and those that send: each keeps what holds, and does what is seen of it.
+-- The calls that change no tag and no entry, and those that send: each preserves the invariant, and changes
+-- the views as the observer sees.
 use mathlib.Core.Path.{_≡_, refl, sym, ap, _∙_}
 use mathlib.Core.Logic.{inl, inr}
 use mathlib.Core.Bool.{Bool, true, false, cond}
@@ -61,10 +62,10 @@ use Rattle.call_ask.specs.Ask.{askWithTag}
 use Rattle.call_access.specs.Access.{readFrom, writeTo}
 use Rattle.tags.specs.Tags.{allStale}
 
--- ---- nothing but E and the page interface
+-- ---- changes of E and the page interface only
 
 module _ (me : Noted) (f : Function) (o : Ok me f) where
-  -- the rest of the state is as it was
+  -- the rest of the state is unchanged
   pub same-ok : (enabled : Bool) (p : Pages) → Ok me (withPages (withEnable f enabled) p)
   same-ok enabled p =
       record {
@@ -85,7 +86,7 @@ module _ (me : Noted) (f : Function) (o : Ok me f) (bytes out : List ℕ) (octet
   abbrev simple : (c : Command) → isTyped c ≡ true → Call
   simple c ty = record { command = c; bytes = bytes; out = out; typed = ty; octets = octets }
 
-  -- ---- E set
+  -- ---- setting E
   pub good-enable : (ty : isTyped Enable ≡ true)
       → Does (Good me f (simple Enable ty)) (sendsNothing (withEnable (withCache (withTags f (allStale (f .tags))) (emptied (f .cache))) true) done)
   good-enable ty =
@@ -129,14 +130,14 @@ module _ (me : Noted) (f : Function) (o : Ok me f) (bytes out : List ℕ) (octet
           (sym unit ∙ o .begun t p h .0, λ d. sym w ∙ o .begun t p h .1 (v ∙ d))
       old t q (Read r) h e = impossible cc
 
--- ---- a tag opened
+-- ---- a new request
 
 module _ (me : Noted) (f : Function) (o : Ok me f) (t : Tag) (own : isTag t ≡ true) (b : TagState) where
   opened-ok : ((q : PendingTranslation) → b ≡ Translate q → (q .stu ≡ f .stu) × (q .due ≡ 0 → q .whole ≡ 0))
       → ((i : ITag) → isIn (delayedBy b) i ≡ false) → Ok me (withTag f t b)
   opened-ok begins notes = left-ok me f o t own b (f .enabled) (f .cache) (o .cache) (o .reached) begins (λ i e. absurd (never-both _ e (notes i)))
 
-  -- a request goes out on a tag that was free
+  -- a request is sent with a free tag
   pub open-step : tagState (f .tags) t ≡ Free → (x : Sent terms) → ((u : ℕ) → uses u (some x) ≡ eqb u (t .0))
       → ((u : ℕ) (p : Option (Pending terms)) → onSent u (some x) p ≡ cond (eqb u (t .0)) (pendingOf b) p)
       → ((i : Ticket) → completes i (some x) ≡ false) → ((i : ITag) → isIn (delayedBy b) i ≡ false)
@@ -191,7 +192,7 @@ module _ (me : Noted) (f : Function) (o : Ok me f) (a : AskArgs) (bytes out : Li
 
 -- ---- access
 
--- where an access goes, that it is for one DWORD at least, and the entry that it goes by
+-- the target of an access, that it has at least one DWORD, and the entry that it uses
 pub record Goes (f : Function) (address dwords : ℕ) (at : Target) : Type 0 where
   pub least : 1 ≤ dwords
   pub inside : at .address < 2 ^ 64
@@ -236,7 +237,7 @@ module _ (me : Noted) (f : Function) (o : Ok me f) (a : AccessArgs) (bytes out :
             },
           )))
 
-  -- what is sent goes by the entry where it is translated
+  -- a translated access uses the entry
   served : (direction : Direction) → a .direction ≡ direction → (at : Target) → Goes f (a .address) (a .dwords) at
       → (bytes : ℕ) (w : Wanted) (k : ℕ)
       → cond {A = Option (Wanted × ℕ)} (at .translated) (some (record { address = addressFor direction (Accesses a); bytes = bytes }, at .address)) none ≡ some (w, k)

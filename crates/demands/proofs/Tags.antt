@@ -1,4 +1,4 @@
--- A tag opened, freed, or open for less, whatever else the call does to E and the cache.
+-- A tag taken, freed, or with fewer bytes due, whatever else the call does to E and the cache.
 use mathlib.Core.Path.{_≡_, refl, sym, ap, _∙_}
 use mathlib.Core.Bool.{Bool, true, false, cond}
 use Prim.Native.Nat.{ℕ, _<_, _^_}

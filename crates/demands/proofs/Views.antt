@@ -1,4 +1,4 @@
--- The views of the card's state that demand 3 is shown by, and what holds of every state that a run reaches.
+-- The views of the card's state for the proof of demand 3, and the invariant of every state that a run reaches.
 use mathlib.Core.Path.{_≡_, refl, sym, _∙_}
 use mathlib.Core.Logic.{inl}
 use mathlib.Core.Bool.{Bool, true, false, not, cond, _&&_, or-true}
@@ -36,7 +36,7 @@ use Rattle.demand3.specs.Demand.{Ticket, Sent, WRITE, Pending, translation, fet
 use Rattle.demand3.proofs.Laws.{View, Step, Through}
 use Rattle.demands.specs.Demands.{Asked, Wanted, Cached, terms, Call, Noted, itag, isListed, callTaken, packetSent, isSole, isOurs, isPacket, heldIn}
 
--- ---- a packet in the Function's name
+-- ---- a packet with the Function's ID
 pub own-packet : (me : Noted) (p : Packet) → p .head .sender ≡ me .id → p .head .tc ≡ 0 → isSole (p .body) ≡ true
     → isOurs me (ok p) ≡ true
 own-packet me p own class sole = rw (eq-eqb (p .head .sender) (me .id) own, eq-eqb (p .head .tc) 0 class, sole)
@@ -87,7 +87,7 @@ view f =
       agent = agentOf (f .agent);
     }
 
--- what holds of every state that is reached; me is what was noted of the last reset
+-- the invariant of every reached state; me are the notes on the last reset
 pub record Ok (me : Noted) (f : Function) : Type 0 where
   pub unit : f .stu ≡ me .stu
   pub own : f .id ≡ me .id
@@ -96,19 +96,19 @@ pub record Ok (me : Noted) (f : Function) : Type 0 where
   pub cache : SoundCache (f .cache)
   pub reached : (j : ℕ) → entryAt (f .cache) j .to < 2 ^ 64
   pub tags : length (f .tags) ≡ 32
-  -- an open Translation Request has the Function's unit, and a first packet of two has left something due
+  -- an outstanding Translation Request has the Function's STU, and after the first of two packets bytes are due
   pub begun : (t : Tag) (q : PendingTranslation) → tagState (f .tags) t ≡ Translate q
       → (q .stu ≡ f .stu) × (q .due ≡ 0 → q .whole ≡ 0)
   pub vector : f .waiting < 2 ^ 32
-  -- only ITags that wait are noted, and they wait for someone
+  -- only waiting ITags are delayed, and then the agent is known
   pub noted : (t : Tag) (i : ITag) → isIn (delayedBy (tagState (f .tags) t)) i ≡ true → isIn (f .waiting) i ≡ true
   pub known : (i : ITag) → isIn (f .waiting) i ≡ true → f .agent ≡ Unknown → ⊥
 
--- what a call left of its packet, at the start of the buffer that it was lent
+-- the packet that a call left at the start of its buffer
 abbrev pub packetIn : Call → Success → List ℕ
 packetIn c d = take (d .sent) (d .bytes ++ drop (length (d .bytes)) (c .out))
 
--- a call that was not refused keeps that, and does to the views what is seen of it
+-- an unrefused call preserves the invariant, and changes the views as the observer sees
 pub record Good (me : Noted) (f : Function) (c : Call) (d : Success) : Type 0 where
   pub ok : Ok me (d .state)
   pub step : Step 32 (view f) (view (d .state)) (record { took = callTaken me (c .command) (c .bytes); sent = packetSent (me .stu) (c .command) (reading (packetIn c d)) })
@@ -126,7 +126,7 @@ module _ (me : Noted) (f : Function) (c : Call) where
   pub good-plain : (g : Function) (w : Unrefused) → Ok me g → Effects g none → Does (Good me f c) (sendsNothing g w)
   good-plain g w o s = does-nothing (Good me f c) g w (record { ok = o; step = rw nothing-reads s; legible = refl; apart = λ i a e. refl })
 
-  -- what was sent reads as what it is
+  -- the packet sent is read as that packet
   pub good-send : (g : Function) (w : Unrefused) (p : Packet) (load : List ℕ) → Typed p → isOurs me (ok p) ≡ true
       → Ok me g → Alone → Effects g (packetSent (me .stu) (c .command) (ok p))
       → Does (Good me f c) (sends g w p load (c .out))
@@ -139,7 +139,7 @@ module _ (me : Noted) (f : Function) (c : Call) where
           let back : reading out ≡ ok p = rw e at (sent-reads p load (c .out) n ty e) in
           record { ok = o; step = rw back s; legible = rw (back, ours) (or-true (eqb (length out) 0)); apart = λ i a h. no-some (sym (alone i) ∙ h) }
 
--- nothing is taken or sent, and nothing changes
+-- nothing is received or sent, and nothing changes
 pub quiet : (v : View terms) → Step 32 v v (record { took = none; sent = none })
 quiet v =
     record {
@@ -158,7 +158,7 @@ quiet v =
       stale = λ i a p. no-some p;
     }
 
--- a write goes out, by an entry where it is translated, and nothing changes
+-- a write is sent, through an entry if it is translated, and nothing changes
 pub writes : (v : View terms) (x : Bool) (b : Wanted) (k : ℕ)
     → ((w : Wanted) (j : ℕ) → cond {A = Option (Wanted × ℕ)} x (some (b, k)) none ≡ some (w, j) → Through v w j)
     → Step 32 v v (record { took = none; sent = some (WRITE x b k) })

@@ -1,11 +1,11 @@
--- THE THREE DEMANDS, as statements about the card. Open this file first. Serves 01, "How much each call must settle".
+-- THE THREE DEMANDS, as statements about the card. Read this file first. Serves 01, "How much each call must settle".
 --
--- `step f c bytes out` is what a call c does to the state f, with the bytes that it is given and the buffer `out` that
--- it is lent. It is a definition (card/specs/Call.antt), and the contract of `card::call` says that the code does just
--- that, for every state, call, packet and buffer.
+-- `step f c bytes out` is the result of a call c in the state f, with the bytes that it is given and the buffer `out`
+-- for the packet to send. It is a definition (card/specs/Call.antt). The contract of `card::call` says that the code
+-- computes it, for every state, call, packet and buffer.
 --
 --   Demand 1 · `Demand1`, proved by `demand-1` in proofs/Proved.antt
---   Demand 2 · `Demand2`, proved by `demand-2`; what it says of packets and states is what the definitions say
+--   Demand 2 · `Demand2`, proved by `demand-2`; its content is in the definitions of packets and calls
 --   Demand 3 · `Demand3`, proved by `demand-3`
 use mathlib.Core.Path.{_≡_}
 use mathlib.Core.Logic.{_↔_}
@@ -59,9 +59,11 @@ use Rattle.card.specs.Sound.{Sound}
 use Rattle.card.proofs.call.Statement.{statement as CallMeetsItsContract}
 use Rattle.demand3.specs.Demand.{given, Terms, Taken, CPL, INV, DRAIN, Sent, TR, READ, WRITE, IC, Observer, Machine, Bench, waits, next, resets, stateAfter, history, Unbroken, Order}
 
--- ---- DEMAND 1: a refusal is one of 17 numbers, of those on its call's own list, and leaves state and buffer as they were.
--- That nothing traps, overruns or hangs is not said here: it is what a proved function is. No public function has a
--- `requires`, so it holds for all arguments. When a call is refused, and with which number first, is what `step` says.
+-- ---- DEMAND 1: a refusal is one of 17 numbers, on the list of its call, and leaves state and buffer unchanged.
+-- That no function traps, overruns a buffer or runs forever is not stated here: every
+-- proved function has this property.
+-- No public function has a `requires`, so it holds for all arguments. `step` defines when a call is refused, and with
+-- which number.
 
 pub record Refusing (f : Function) (c : Command) (bytes out : List ℕ) (n : ℕ) : Type 0 where
   pub state : step f c bytes out .state ≡ f
@@ -76,14 +78,14 @@ Demand1 =
     → Refusing f c bytes out n
 
 -- ---- DEMAND 2: packets and states are those of the papers, and no other.
--- That is what the definitions say which the contracts cite: packet/specs (`reading`, `writing`) and
--- card/specs/Call.antt (`step`, and what it leads to); they have to be read. Here stands that the code of `card::call`
--- meets its contract: it ends, and does what `step` says. (The checker makes this statement of the `ensures` in
--- card/src/lib.rt, for every M, the resources that the program logic reckons with.) And what shows that the
--- definitions fit together: what is written reads as the same packet; what is read can be written, and gives the same
--- bytes but for the bits that no field names; 4 is given for just the values that 01 forbids, said once more phrase by
--- phrase; and every state that calls reach has 32 slots with at most one entry a unit, 32 tags, 32 groups and no more
--- credits in use than were allowed.
+-- The content of this demand is in the definitions to which the contracts refer: packet/specs (`reading`, `writing`)
+-- and card/specs/Call.antt (`step`, and the definitions that it uses). They have to be read. The statement here is that
+-- the code of `card::call` satisfies its contract: it terminates and computes `step`. (The checker derives this
+-- statement from the `ensures` in card/src/lib.rt, for every M, the type of resources of the program logic.) The other
+-- fields show that the definitions are consistent. A written packet is read as the same packet. A packet that was read
+-- can be written, and gives the same bytes with the unnamed bits cleared. Exactly the values that 01 forbids are
+-- refused with 4, by a second definition that follows 01 phrase by phrase. Every reachable state has 32 slots with at
+-- most one entry per unit, 32 tags, 32 groups, and at most as many credits in use as were allocated.
 
 pub record Demand2 : Type 2 where
   pub code : {M : Type 1} → CallMeetsItsContract M
@@ -96,28 +98,31 @@ pub record Demand2 : Type 2 where
   pub starts : (id stu : ℕ) (rcb : Rcb) → Sound (fresh id stu rcb)
   pub keeps : (f : Function) (c : Command) (bytes out : List ℕ) → Sound f → Sound (step f c bytes out .state)
 
--- ---- DEMAND 3: once a completion is sent nothing old is cached in its range and no old read is open, and the completions add up.
--- The demand itself, for any machine, is demand3/specs/Demand.antt; its words there are
+-- ---- DEMAND 3: once an Invalidate Completion is sent, no stale entry is cached and no old read is outstanding.
+-- And each accepted Invalidate Request has exactly one completion. The demand itself, for any machine, is
+-- demand3/specs/Demand.antt. These fields and definitions state it:
 --
---   each overlapping entry came from a Translation Request sent after the arrival     `entries`, from the completion on; `sooner`, from the arrival on
---   and every overlapping translated read of before the arrival has ended             `reads`
---   for each ITag, requests accepted are completions sent, and one more if it waits   `counts` and `agent`
---   it waits until an unrefused drain call comes with those reads closed              `waits`; and, below, `NineWhileWaiting`
---   from one accepted reset to the next                                               `Order` and `Unbroken`
+--   each overlapping entry came from a Translation Request sent after the arrival   `entries`
+--   (from the completion on; `sooner` says it already from the arrival on)
+--   every overlapping translated read from before the arrival has ended             `reads`
+--   per ITag, accepted requests are completions sent, plus one if it waits          `counts` and `agent`
+--   it waits until an unrefused drain call finds those reads closed                 `waits`; below, `NineWhileWaiting`
+--   from one accepted reset to the next                                             `Order` and `Unbroken`
 --
--- and, beyond these words, `through` says that what is not cached is not used either, and `tags`, `legible`, `apart`
--- and `silent` that no request, read or completion that was sent is overlooked. Here is what it is stated of: what is
--- seen of a call on the card, what its cache holds, and what overlaps. As there, lists of calls stand newest first.
+-- Two more properties are stated. `through`: no translation outside the cache is used. `tags`, `legible`, `apart` and
+-- `silent`: the observer misses no request, read or completion that is sent. The definitions below describe the
+-- card for that statement: what the observer sees of a call, what the cache holds, and what overlaps. Lists of
+-- calls have the newest first, as there.
 
--- ---- what packets speak of
+-- ---- the objects that packets are about
 
--- the units that a Translation Request asks for
+-- the range of a Translation Request, and the STU
 pub record Asked : Type 0 where
   pub stu : ℕ
   pub range : Range
 
--- the bytes that an access asks for, from the address that the call was given on, whatever address was sent; one that
--- no call asked for could be of any
+-- The bytes that an access is for. The address is the argument of the call, not the address sent. An access that no
+-- call asked for has no address, and overlaps everything.
 pub record Wanted : Type 0 where
   pub address : Option ℕ
   pub bytes : ℕ
@@ -127,34 +132,38 @@ pub record Reply : Type 0 where
   pub count : ℕ
   pub load : List ℕ
 
--- an entry, with the unit in force
+-- an entry, with the current STU
 pub record Cached : Type 0 where
   pub stu : ℕ
   pub entry : Entry
 
 abbrev pub sameEntry : Entry → Entry → Bool
 sameEntry x y =
-    Bool·beq (x .used) (y .used) && (Bool·beq (x .r) (y .r) && (Bool·beq (x .w) (y .w) && (Bool·beq (x .n) (y .n) && (Bool·beq (x .u) (y .u)
+    Bool·beq (x .used) (y .used)
+    && (Bool·beq (x .r) (y .r) && (Bool·beq (x .w) (y .w) && (Bool·beq (x .n) (y .n) && (Bool·beq (x .u) (y .u)
     && (eqb (x .unit) (y .unit) && eqb (x .to) (y .to))))))
 
--- this translation, of regions of 2 ^ e bytes, grants the entry
+-- this translation of 2 ^ e bytes grants the entry
 abbrev pub isGranted : Translation → ℕ → Entry → Bool
 isGranted t e x = allowsAccess t && sameEntry x (entryOf t e (x .unit))
 
--- One of the payload's translations grants the entry: the one over the entry's unit, counted from the region of the
--- first byte asked for, after the regions that came in an earlier packet. All have the size of the payload's first.
+-- A translation of the payload grants the entry: the one that covers the entry's unit. Regions are counted
+-- from that of the first byte of the range; those of an earlier packet come first. All translations have the
+-- size of the first in the payload.
 abbrev pub isGiven : ℕ → ℕ → List ℕ → Entry → Bool
 isGiven first regions load x =
     let e = exponentOr0 (translationAt load 0 .size) in
     let k = regionIndex first e (x .unit) in
     leb regions k && (ltb (k - regions) (length load / 8) && isGranted (translationAt load (k - regions)) e x)
 
--- the unit of the entry is one of those asked for, and the reply, after so many bytes of an earlier packet, grants it
+-- the entry's unit is in the requested range, and the reply, after this many bytes of an
+-- earlier packet, grants the entry
 abbrev pub isReplied : Asked → ℕ → Reply → Cached → Bool
-isReplied q came d x = eqb (x .stu) (q .stu) && (isWithin (regionOf (x .entry .unit) (unitExponent (q .stu))) (q .range) && isGiven (q .range .first) (came / 8) (d .load) (x .entry))
+isReplied q came d x =
+    eqb (x .stu) (q .stu)
+    && (isWithin (regionOf (x .entry .unit) (unitExponent (q .stu))) (q .range) && isGiven (q .range .first) (came / 8) (d .load) (x .entry))
 
--- the entry's unit holds the address asked for, and the address sent has the same place in
--- what the unit is translated to
+-- the entry's unit holds the requested address, and the address sent has the same offset in the translated unit
 abbrev pub isServed : Cached → Wanted → ℕ → Bool
 isServed x b to =
     given (b .address)
@@ -178,9 +187,9 @@ terms =
       serves = isServed;
     }
 
--- ---- what is seen of a call
+-- ---- what the observer sees of a call
 
--- arguments are of their types, as the compiler has it: 64 bits of an address, 16 of an ID
+-- arguments have the bounds of their types: 64 bits for an address, 16 for an ID
 abbrev pub isTyped : Command → Bool
 isTyped (Reset a) = ltb (a .id) (2 ^ 16)
 isTyped Enable = true
@@ -193,7 +202,7 @@ isTyped (PagesOn n) = true
 isTyped PagesOff = true
 isTyped (PageRequest q) = ltb (q .page) (2 ^ 64)
 
--- a call, with the packet that is received or the payload that is handed in, and the buffer that is lent
+-- a call, with the received packet or the payload to write, and the buffer for the packet to send
 pub record Call : Type 0 where
   pub command : Command
   pub bytes : List ℕ
@@ -201,7 +210,7 @@ pub record Call : Type 0 where
   pub typed : isTyped command ≡ true
   pub octets : areBytes bytes ≡ true
 
--- what it answers, and the length that it gives of the packet sent
+-- its answer, and the reported length of the packet sent
 pub record Answered : Type 0 where
   pub answer : Result Unrefused
   pub sent : ℕ
@@ -222,7 +231,7 @@ isReset (PagesOn n) = false
 isReset PagesOff = false
 isReset (PageRequest q) = false
 
--- what the bench notes of the last accepted reset: the ID and the STU that it gave the Function
+-- the observer's notes: the ID and the STU of the last accepted reset
 pub record Noted : Type 0 where
   pub id : ℕ
   pub stu : ℕ
@@ -239,7 +248,7 @@ notedAfter me (PagesOn n) = me
 notedAfter me PagesOff = me
 notedAfter me (PageRequest q) = me
 
--- the address that a call asks to read, or to write
+-- equality of directions; and, below, the address of a call that reads or writes
 abbrev pub sameDirection : Direction → Direction → Bool
 sameDirection ToRead ToRead = true
 sameDirection ToRead ToWrite = false
@@ -258,13 +267,13 @@ addressFor direction (PagesOn n) = none
 addressFor direction PagesOff = none
 addressFor direction (PageRequest q) = none
 
--- a completion with data, or with a status that ends its request
+-- what a completion delivers: data, or a status that ends its request
 abbrev pub outcomeTaken : ℕ → ℕ → List ℕ → Outcome → Option (Taken terms)
 outcomeTaken tag count load (Data dwords) = some (CPL tag (some (record { count = count; load = load })))
 outcomeTaken tag count load (Status status) = cond (eqb status 0) none (some (CPL tag none))
 
--- a completion for this Function, or an Invalidate Request with its range rounded up to the unit,
--- that is received, and from whom
+-- what a received packet delivers: a completion for this Function, or an Invalidate Request with its sender and
+-- its range rounded up to the unit
 abbrev pub bodyTaken : Noted → List ℕ → ℕ → Body → Option (Taken terms)
 bodyTaken me load from (Tr t) = none
 bodyTaken me load from (Mem m) = none
@@ -292,14 +301,14 @@ callTaken me (PagesOn n) bytes = none
 callTaken me PagesOff bytes = none
 callTaken me (PageRequest q) bytes = none
 
--- the ITag of a number; a vector has 32
+-- the ITag with a number; a vector has 32 of them
 abbrev pub itag : ℕ → ITag
 itag k = record { 0 = k }
 
 abbrev pub isListed : ℕ → ℕ → Bool
 isListed v k = ltb k 32 && isIn v (itag k)
 
--- a Translation Request, a read, a write or an Invalidate Completion that is sent
+-- what a packet sends: a Translation Request, a read, a write or an Invalidate Completion
 abbrev pub accessSent : Command → ℕ → ℕ → Bool → Access → Option (Sent terms)
 accessSent c dwords to translated (Read t) =
     some (READ (t .0) translated (record { address = addressFor ToRead c; bytes = 4 * dwordCount dwords }) to)
@@ -320,7 +329,7 @@ abbrev pub packetSent : ℕ → Command → Result Packet → Option (Sent terms
 packetSent stu c (ok p) = bodySent stu c (p .body)
 packetSent stu c (refusal n) = none
 
--- a packet in the Function's own name, on the one Traffic Class; an Invalidate Completion says that it is the only one
+-- a packet with the Function's ID and Traffic Class 0; an Invalidate Completion has Completion Count 1
 abbrev pub isSole : Body → Bool
 isSole (Tr t) = true
 isSole (Mem m) = true
@@ -334,12 +343,12 @@ abbrev pub isOurs : Noted → Result Packet → Bool
 isOurs me (ok p) = eqb (p .head .sender) (me .id) && (eqb (p .head .tc) 0 && isSole (p .body))
 isOurs me (refusal n) = false
 
--- bytes that read as such a packet, or none at all
+-- bytes that are read as such a packet, or no bytes
 abbrev pub isPacket : Noted → List ℕ → Bool
 isPacket me bytes = eqb (length bytes) 0 || isOurs me (reading bytes)
 
--- Of a call is seen its command, the bytes that it was given and those that it sent, whether it was refused, and the ID
--- and STU of the last accepted reset.
+-- The observer sees the command of a call, the bytes that it was given and those that it sent, whether it was refused,
+-- and the ID and STU of the last accepted reset.
 abbrev pub observer : Observer terms
 observer =
     record {
@@ -357,11 +366,11 @@ observer =
       tags = 32;
     }
 
--- what slot j of the cache holds
+-- the content of slot j of the cache
 abbrev pub heldIn : Function → ℕ → Option Cached
 heldIn f j = cond (entryAt (f .cache) j .used) (some (record { stu = f .stu; entry = entryAt (f .cache) j })) none
 
--- the card: what its calls do is what `step` says, which their contracts cite
+-- the card: its calls do what `step` says, to which their contracts refer
 abbrev pub card : Machine observer
 card =
     record {
@@ -373,15 +382,17 @@ card =
       held = heldIn;
     }
 
--- After any calls that hold no accepted reset: an Invalidate Request for the Function, whatever its range, is refused
--- with 9 exactly where its ITag, of its agent, waits, read from the calls alone.
+-- After any calls without an accepted reset, an Invalidate Request for the Function, of any range, is refused with 9 if
+-- and only if its ticket waits. Whether it waits is computed from the history alone.
 abbrev pub NineWhileWaiting : Bench card → Type 0
 NineWhileWaiting begin =
     (calls : List Call) → Unbroken card begin calls → (bytes out : List ℕ) (p : Packet) (i : InvalidateRequest)
     → reading bytes ≡ ok p → p .body ≡ Inv i → i .device ≡ stateAfter card begin calls .notes .id
-    → (step (stateAfter card begin calls .fn) Receive bytes out .answer ≡ refusal 9) ↔ (waits 32 (record { agent = p .head .sender; number = bitIndex (i .itag) }) (history card begin calls) ≡ true)
+    → (step (stateAfter card begin calls .fn) Receive bytes out .answer ≡ refusal 9)
+    ↔ (waits 32 (record { agent = p .head .sender; number = bitIndex (i .itag) }) (history card begin calls) ≡ true)
 
--- From every state on which a reset is accepted, and from a new Function: `Order` is demand3/specs/Demand.antt's.
+-- `Order` is that of demand3/specs/Demand.antt. `nine` holds after every accepted reset, and
+-- `nineNew` for a new Function.
 pub record Demand3 : Type 0 where
   pub order : Order card
   pub nine : (s : Bench card) (c : Call) → resets card s c ≡ true → NineWhileWaiting (next card s c)

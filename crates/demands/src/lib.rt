@@ -1,1 +1,2 @@
-// What is promised of the card over every run of calls: definitions in specs/ and theorems in proofs/ only.
+// What is proved of the card for every run of calls. Definitions in specs/ and
+// theorems in proofs/ only.

@@ -1,4 +1,4 @@
--- The examples of document 01 that are to be shown of the definitions: one list, under one statement.
+-- The examples of document 01, proved for the definitions: one list, under one statement.
 use mathlib.Core.Path.{_≡_, refl}
 use mathlib.Core.Bool.{true, false, cond}
 use mathlib.Core.List.{List, [], _∷_, _++_}
@@ -35,7 +35,7 @@ use Rattle.card.specs.declared.Command.the-variants.{Reset, Enable, Ask, Access
 use Rattle.card.specs.Call.{step}
 use Rattle.card.proofs.Computed.{computed}
 
--- an example says that two things are equal
+-- an example is an equation
 record Example : Type 1 where
   Thing : Type 0
   left : Thing
@@ -93,7 +93,7 @@ shown1 = fourBytes 0x3109_5452 ++ fourBytes 0x0930_3130 ++ fourBytes 0x3009_350A
 abbrev shown2 : List ℕ
 shown2 = fourBytes 0x3209_4943 ++ fourBytes 0x0930_3130 ++ fourBytes 0x3009_3830 ++ fourBytes 0x3030_3030 ++ 0x30 ∷ 0x31 ∷ 0x0A ∷ []
 
--- ---- runs of calls on a new Function, each with the bytes beside it and a buffer of 16 bytes
+-- ---- runs of calls on a new Function, each with its bytes and a buffer of 16 bytes
 
 abbrev buffer : List ℕ
 buffer = replicate 16 0
@@ -102,7 +102,7 @@ abbrev functionAfter : Function → List (Command × List ℕ) → Function
 functionAfter f [] = f
 functionAfter f (c ∷ cs) = functionAfter (step f (c .0) (c .1) buffer .state) cs
 
--- what a call answers
+-- the answer of a call
 abbrev answer : Function → Command → List ℕ → Result Unrefused
 answer f c bytes = step f c bytes buffer .answer
 
@@ -118,7 +118,7 @@ abbrev reply : ℕ → ℕ → List ℕ
 reply high low =
     fourBytes 0x4A00_0002 ++ fourBytes 0x0008_0008 ++ fourBytes 0x0100_0038 ++ fourBytes high ++ fourBytes low
 
--- and what it sends: the answer, the length, the buffer after the call
+-- and with what it sends: the answer, the length, the buffer after the call
 abbrev outcome : Function → Command → List ℕ → Result Unrefused × ℕ × List ℕ
 outcome f c bytes = let r = step f c bytes buffer in (r .answer, r .sent, r .buffer)
 
@@ -126,12 +126,12 @@ outcome f c bytes = let r = step f c bytes buffer in (r .answer, r .sent, r .buf
 abbrev reads : Function → ℕ → Result Target
 reads f address = lookingUp f (record { direction = ToRead; address = address; dwords = 1 }) 0
 
--- example 1: 3 units from 0 at STU 0, answered by 16384 bytes at 4000 0000h with R and W, then an Invalidate Request
+-- example 1: 3 units from 0 at STU 0, translated to 16384 bytes at 4000 0000h with R and W, then an Invalidate Request
 abbrev invalidated-by : ℕ → Function
 invalidated-by low =
     functionAfter (started 0) ((ask 0 3, []) ∷ (Receive, reply 0 0x4000_1803) ∷ (Receive, invalidate 0 low) ∷ [])
 
--- example 4: 203000h asked for at STU 0, and answered by 2 MiB at 4000 0000h with R and W
+-- example 4: 203000h at STU 0, translated to 2 MiB at 4000 0000h with R and W
 abbrev afterFill : Function
 afterFill = functionAfter (started 0) ((ask 0x203000 1, []) ∷ (Receive, reply 0 0x400F_F803) ∷ [])
 
@@ -149,7 +149,7 @@ examples =
     ∷ reading (invalidate 0 0x1800) is ok (invalidation 0x1000)
     ∷ sizeOf 0x1000 true is Exponent 14
     ∷ translationOf 0x1800 is translationAtBase 0 (Exponent 14)
-    -- as a range at 0, and as what a read meets after the call
+    -- as a range at 0, and as the result of a read after the call
     ∷ invalidatedRange 0 (invalidateRequest 0) is record { first = 0; last = 0x1FFF }
     ∷ invalidatedRange 0 (invalidateRequest 0x1000) is record { first = 0; last = 0x3FFF }
     ∷ reads (invalidated-by 0x0800) 0x1FFC is refusal 13
@@ -177,7 +177,7 @@ examples =
     ∷ bytesOf pageRequest [] is pageBytes
     ∷ writing pageRequest 0 16 is ok 16
     ∷ outcome (functionAfter (started 0) ((PagesOn 1, []) ∷ [])) (Requests page) [] is (ok done, 16, pageBytes)
-    -- 8: at the top of the address space one unit can be asked for, and two cannot
+    -- 8: at the top of the address space one unit can be requested, and two cannot
     ∷ outcome (started 0) (ask 0xFFFF_FFFF_FFFF_F000 1) [] is (ok (tag 0), 16, fourBytes 0x2000_0402 ++ fourBytes 0x0100_00FF ++ fourBytes 0xFFFF_FFFF ++ fourBytes 0xFFFF_F000)
     ∷ outcome (started 0) (ask 0xFFFF_FFFF_FFFF_F000 2) [] is (refusal 12, 0, buffer)
     ∷ []

@@ -1,1 +1,1 @@
-// The worked examples of document 01, proved of the definitions; there is no code here.
+// The worked examples of document 01, proved for the definitions. There is no code here.

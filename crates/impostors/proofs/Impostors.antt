@@ -1,5 +1,5 @@
--- Wrong cards, each refused by demand 3 alone, on a run that the checker computes. Each is the card but for what is
--- said of it, as far as that run goes.
+-- Wrong cards, each of which violates demand 3, on a run that the checker computes. Each differs from the card only as
+-- its comment says, as far as that run goes.
 use mathlib.Core.Path.{_≡_, refl, sym}
 use mathlib.Core.Bool.{Bool, true, false, cond, _||_}
 use mathlib.Core.List.{List, [], _∷_, map}
@@ -59,7 +59,7 @@ cardBy g =
 abbrev honest : Function → Call → Observed
 honest f c = step f (c .command) (c .bytes) (c .out)
 
--- by what a call brings: a completion, an Invalidate Request, a drain, none of these
+-- a choice by what a call delivers: a completion, an Invalidate Request, a drain, none of these
 abbrev by : {X : Type 0} → Option (Taken terms) → X → X → X → X → X
 by none x y z o = o
 by (some (CPL t d)) x y z o = x
@@ -77,17 +77,17 @@ withBuffer r b = record { state = r .state; answer = r .answer; sent = r .sent; 
 
 -- ---- what they do
 
--- it keeps the entries that an Invalidate Request should drop
+-- it keeps the entries that an Invalidate Request should delete
 abbrev keeper : Function → Call → Observed
 keeper f c = let r = honest f c in by (brings c) r (withState r (withCache (r .state) (f .cache))) r r
 
--- it drops them, and all others, only when it drains
+-- it deletes them, and all others, only when it drains
 abbrev tardy : Function → Call → Observed
 tardy f c =
     let r = honest f c in
     by (brings c) r (withState r (withCache (r .state) (f .cache))) (withState r (withCache (r .state) (emptied (r .state .cache)))) r
 
--- an Invalidate Request leaves the tags otherwise than it should
+-- an Invalidate Request changes the tags in a wrong way
 abbrev marking : (TagState → TagState) → Function → Call → Observed
 marking mark f c = let r = honest f c in by (brings c) r (withState r (withTags (r .state) (map (λ (p : TagRow). tagRow (mark (p .state))) (r .state .tags)))) r r
 
@@ -110,7 +110,7 @@ unnoted (Reading x) =
 abbrev hasty : Function → Call → Observed
 hasty = marking unnoted
 
--- of data for an open read only their number counts, and `left` says what they leave of it
+-- for data of an outstanding read only their length counts, and `left` is the new state of its tag
 abbrev leftIn : (PendingRead → ℕ → TagState) → Function → Observed → Tag → ℕ → TagState → Observed
 leftIn left f r t n Free = r
 leftIn left f r t n (Translate q) = r
@@ -128,11 +128,11 @@ countingOn left f r (some (DRAIN n)) = r
 abbrev counting : (PendingRead → ℕ → TagState) → Function → Call → Observed
 counting left f c = countingOn left f (honest f c) (brings c)
 
--- it calls a read ended after any data for its tag
+-- it ends a read after any data for its tag
 abbrev early : Function → Call → Observed
 early = counting (λ x n. Free)
 
--- it counts the bytes that come for a read, and does not look at how many the completion says are due
+-- it counts the bytes that come for a read, and ignores Byte Count
 abbrev repeater : Function → Call → Observed
 repeater = counting (λ x n. cond (leb (x .due) n) Free (Reading (record { address = x .address; bytes = x .bytes; due = x .due - n; translated = x .translated; itags = x .itags })))
 
@@ -140,7 +140,7 @@ repeater = counting (λ x n. cond (leb (x .due) n) Free (Reading (record { addre
 abbrev hider : Function → Call → Observed
 hider f c = let r = honest f c in by (brings c) r (record { state = f; answer = ok (carries 0); sent = 16; buffer = bytesOf (invalidateCompletionPacket 0 (Known 0x0200) 0) [] }) r r
 
--- a drain has nothing to send for ever
+-- a drain never sends anything
 abbrev silent : Function → Call → Observed
 silent f c =
     let r = honest f c in by (brings c) r r (record { state = f; answer = ok (carries 0); sent = 0; buffer = c .out }) r
@@ -149,23 +149,23 @@ silent f c =
 abbrev unwritten : Function → Call → Observed
 unwritten f c = let r = honest f c in by (brings c) r r (withBuffer r (c .out)) r
 
--- its completions are in someone else's name
+-- its completions have another sender's ID
 abbrev alias : Function → Call → Observed
 alias f c = let r = honest f c in by (brings c) r r (withBuffer r (bytesOf (invalidateCompletionPacket 9 (f .agent) (readyOf f)) [])) r
 
--- they say that they are one of two
+-- its completions have Completion Count 2
 abbrev half : Function → Call → Observed
 half f c = let r = honest f c in by (brings c) r r (withBuffer r (set (r .buffer) 11 2)) r
 
--- its completions go to someone else
+-- its completions go to another device
 abbrev astray : Function → Call → Observed
 astray f c = let r = honest f c in by (brings c) r r (withBuffer r (bytesOf (invalidateCompletionPacket (f .id) (Known 8) (readyOf f)) [])) r
 
--- every request goes out with tag 0
+-- every request is sent with tag 0
 abbrev again : Function → Call → Observed
 again f c = let r = honest f c in by (brings c) r r r (withBuffer r (set (r .buffer) 6 0))
 
--- it reads on its own account, whenever a call brings none of these
+-- it sends a read of its own, whenever a call delivers none of these
 abbrev curious : Function → Call → Observed
 curious f c =
     let r = honest f c in
@@ -227,27 +227,27 @@ anyones f c = given (requester (reading (c .bytes))) (λ id. let r = honest (ren
 abbrev obliging : Function → Call → Observed
 obliging f c = by (brings c) (honest f c) (honest (withAgent f Unknown) c) (honest f c) (honest f c)
 
--- one read more: to 10 0000h, translated, with tag 0, whatever the call
+-- one additional read: translated, to 10 0000h, with tag 0, for any call
 abbrev parting : Observed → Observed
 parting r = record { state = r .state; answer = r .answer; sent = 12; buffer = bytesOf (memoryRequestPacket 0 (Fetches (record { 0 = 0 })) 1 (record { address = 0x10_0000; translated = true })) [] }
 
--- it sends that when it accepts an Invalidate Request
+-- it sends that read when it accepts an Invalidate Request
 abbrev lastWord : Function → Call → Observed
 lastWord f c = let r = honest f c in by (brings c) r (parting r) r r
 
--- and it sends it when it is reset
+-- it sends that read when it is reset
 abbrev chatty : Function → Call → Observed
 chatty f c = let r = honest f c in cond (isReset (c .command)) (parting r) r
 
--- it sends that for a write
+-- it sends that read instead of a write
 abbrev substitute : Function → Call → Observed
 substitute f c = given (addressFor Write (c .command)) (λ a. parting (honest f c)) (honest f c)
 
--- what it sends has a byte 7 that no packet has, so that nobody sees a read
+-- its packet has a byte 7 that no packet has, so that the observer sees no read
 abbrev mumbler : Function → Call → Observed
 mumbler f c = let r = honest f c in by (brings c) r r r (withBuffer r (set (r .buffer) 7 0x0E))
 
--- it keeps what it should drop, and shows an empty cache
+-- it keeps what it should delete, and shows an empty cache
 abbrev shadowCard : Machine observer
 shadowCard =
     record {
@@ -259,7 +259,7 @@ shadowCard =
       held = λ f j. none;
     }
 
--- ---- two that remember more than a Function does
+-- ---- two with more state than a Function
 
 pub record Odd : Type 0 where
   pub inner : Function
@@ -277,7 +277,7 @@ oddBy moves writes =
       held = λ x j. heldIn (x .inner) j;
     }
 
--- it keeps an old entry in a drawer, and puts it back when a completion comes
+-- it keeps an old entry outside the cache, and puts it back when a completion comes
 abbrev putBack : Function → Entry → Function
 putBack f e = withCache f (filledWith e (f .cache))
 
@@ -290,7 +290,7 @@ drawerMoves x c =
 abbrev drawerCard : Machine observer
 drawerCard = oddBy drawerMoves (λ x c. honest (x .inner) c .buffer)
 
--- it drains properly once, and then only says so
+-- it drains correctly once, and then only answers that it did
 abbrev idleMoves : Odd → Call → Odd
 idleMoves x c = record { inner = honest (x .inner) c .state; drawer = noEntry; spent = x .spent || by (brings c) false false true false }
 
@@ -309,14 +309,14 @@ warm = ask ∷ read ∷ granted ∷ ask ∷ enable ∷ []
 abbrev start : (M : Machine observer) → Bench M
 start M = record { fn = M .new; notes = record { id = 0; stu = 0 } }
 
--- from a new Function, an overlapping entry was brought by one of the calls since the request
+-- from a new Function, one of the calls since the request delivered an overlapping entry
 shown : (M : Machine observer) → Order M → (before : List Call) (c : Call) (since : List Call)
     → Completed M (start M) before c since three page → (j : ℕ) (e : Cached)
     → M .held (stateAfter M (stateAfter M (start M) (c ∷ before)) since .fn) j ≡ some e → terms .overlaps page e ≡ true
     → broughtIn M e (stateAfter M (start M) (c ∷ before)) since ≡ true
 shown M d before c since z j e p o = brought M j e _ since (d .new .entries before c since three page z j e p o)
 
--- none of them keeps demand 3
+-- none of them satisfies demand 3
 pub record Refused : Type 1 where
   pub keeper : Order (cardBy keeper) → ⊥
   pub tardy : Order (cardBy tardy) → ⊥

@@ -1,4 +1,4 @@
--- Two runs of the card that the checker computes, in which all that demand 3 speaks of happens.
+-- Two runs of the card that the checker computes, in which every case of demand 3 occurs.
 use mathlib.Core.Path.{_≡_, refl}
 use mathlib.Core.Bool.{true, false}
 use mathlib.Core.List.{List, [], _∷_, _++_}
@@ -65,7 +65,7 @@ lastPart = receive (fourBytes 0x4A00_0001 ++ fourBytes 0x0008_0004 ++ fourBytes 
 abbrev pub bothParts : Call
 bothParts = receive (fourBytes 0x4A00_0002 ++ fourBytes 0x0008_0008 ++ fourBytes 0 ++ fourBytes 0x1122_3344 ++ fourBytes 0x5566_7788) refl
 
--- no data for tag 0, and status 000, which says nothing
+-- a completion without data and with status 000 for tag 0, which has no effect
 abbrev pub nothingSaid : Call
 nothingSaid = receive (fourBytes 0x0A00_0000 ++ fourBytes 0x0008_0008 ++ fourBytes 0) refl
 
@@ -102,15 +102,15 @@ begin = record { fn = fresh 0 0 (rcbOf 64); notes = record { id = 0; stu = 0 } }
 abbrev pub warm : List Call
 warm = ask ∷ read ∷ granted ∷ ask ∷ enable ∷ []
 
--- the read is open still after its first part, and a refused reset changes nothing
+-- the read is still open after its first part, and a refused reset changes nothing
 abbrev pub held : List Call
 held = drain ∷ firstPart ∷ wrongReset ∷ drain ∷ []
 
--- it ends, and the next drain completes; then the old Translation Request is answered
+-- the read ends, and the next drain sends the completion; then the old Translation Request is completed
 abbrev pub late : List Call
 late = grantedLate ∷ drain ∷ lastPart ∷ held
 
--- and a new one is sent and answered
+-- and a new one is sent and completed
 abbrev pub anew : List Call
 anew = grantedAnew ∷ ask ∷ late
 
@@ -131,28 +131,32 @@ large = next card begin (simply (Reset (record { id = 0; stu = 1; rcb = 64 })) r
 abbrev pub warmLarge : List Call
 warmLarge = simply (Access (record { direction = Read; address = 0x4000; dwords = 2 })) refl ∷ receive (fourBytes 0x4A00_0002 ++ fourBytes 0x0008_0008 ++ fourBytes 0x0000_0038 ++ fourBytes 0 ++ fourBytes 0x0010_0803) refl ∷ ask ∷ enable ∷ []
 
--- What is to be seen there: the read is open; the request is accepted; the first drains send nothing, the ITag waits,
--- and the same request is refused with 9; then one completion is sent, it waits no longer, and the request can come
--- again; the old entry is gone, the old reply brings nothing; the new one brings the new page, in slot 0, and is what
--- it came from; the old read is closed. With units of 8192 bytes the request is for the whole unit: its entry is gone
--- at once, and the read in its lower half holds the completion back until it ends.
+-- What happens there: the read is open; the request is accepted; the first drains send nothing, the ITag waits, and the
+-- same request is refused with 9; then one completion is sent, the ITag no longer waits, and the request can come
+-- again; the old entry is deleted, and the old reply brings nothing; the new reply brings the new page into slot 0; the
+-- old read is closed. With units of 8192 bytes the request is for the whole unit: its entry is deleted at once, and the
+-- read in its lower half delays the completion until it ends.
 pub record Happens : Type 0 where
-  pub opens : readIn page (openAt 0 (history card begin warm)) ≡ some (fetch true (record { address = some 0x5000; bytes = 8 }) 8)
+  pub opens : readIn page (openAt 0 (history card begin warm))
+      ≡ some (fetch true (record { address = some 0x5000; bytes = 8 }) 8)
   pub arrives : accepts three (seen card (stateAfter card begin warm) request .took) ≡ some page
-  pub holds : (completions three (history card then held) ≡ 0) × (waits 32 three (history card begin (held ++ request ∷ warm)) ≡ true)
+  pub holds : (completions three (history card then held) ≡ 0)
+      × (waits 32 three (history card begin (held ++ request ∷ warm)) ≡ true)
   pub refuses : card .answer (stateAfter card begin (held ++ request ∷ warm) .fn) request .answer ≡ refusal 9
   pub free : card .answer (stateAfter card begin (late ++ request ∷ warm) .fn) request .answer ≡ ok done
-  pub completes : (completions three (history card then late) ≡ 1) × (waits 32 three (history card begin (late ++ request ∷ warm)) ≡ false)
+  pub completes : (completions three (history card then late) ≡ 1)
+      × (waits 32 three (history card begin (late ++ request ∷ warm)) ≡ false)
   pub drops : heldIn (then .fn) 0 ≡ none
   pub ignores : heldIn (stateAfter card then late .fn) 0 ≡ none
   pub fills : heldIn (stateAfter card then anew .fn) 0 ≡ some fresher
   pub came : broughtIn card fresher then anew ≡ true
   pub closed : remains 0 (history card then late) (readIn page (openAt 0 (history card begin warm))) ≡ none
   pub cached : heldIn (stateAfter card large warmLarge .fn) 0 ≡ some (record { stu = 1; entry = record { used = true; r = true; w = true; n = false; u = false; unit = 0x4000; to = 0x10_0000 } })
-  pub rounds : accepts three (seen card (stateAfter card large warmLarge) request .took) ≡ some (record { first = 0x4000; last = 0x5FFF })
+  pub rounds : accepts three (seen card (stateAfter card large warmLarge) request .took)
+      ≡ some (record { first = 0x4000; last = 0x5FFF })
   pub dropsLarge : heldIn (stateAfter card large (request ∷ warmLarge) .fn) 0 ≡ none
   pub holdsLarge : completions three (history card large (drain ∷ request ∷ warmLarge)) ≡ 0
-  -- so that demand 3 has something to speak of
+  -- so that the premises of demand 3 can hold
   pub speaks : Completed card begin warm request anew three page
   pub completesLarge : completions three (history card large (drain ∷ bothParts ∷ drain ∷ request ∷ warmLarge)) ≡ 1
 

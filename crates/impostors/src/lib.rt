@@ -1,1 +1,1 @@
-// Runs of the card that the checker computes, and wrong cards that demand 3 refuses: theorems only, in proofs/.
+// Runs of the card, computed by the checker, and wrong cards that violate demand 3. Theorems only.

@@ -8,7 +8,7 @@ use native.Mathlib.Numerals.{add-one}
 use Rattle.lemmas.proofs.Cases.{and-false}
 use Rattle.lemmas.specs.All.{allBelow}
 
--- A loop that goes up and stops at the first number that fails: before it, in a turn, where it stops
+-- invariants of such a loop: at its start, after a turn, and where it stops
 module _ (p : ℕ → Bool) where
   pub all-start : allBelow p 0 ≡ true
   unfolding allBelow

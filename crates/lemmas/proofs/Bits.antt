@@ -17,7 +17,7 @@ bitAt v k = v / 2 ^ k % 2
 or-bit : (v w k : ℕ) → bitAt (bitOr v w) k ≡ max (bitAt v k) (bitAt w k)
 or-bit v w k = rw (or-shr v w k, or-step (v / 2 ^ k) (w / 2 ^ k)) (omega arith)
 
--- the lowest bit, and what stands above it
+-- the lowest bit, and the bits above it
 without-low : (h x a b : ℕ) → x ≤ h → a < 2 → b < 2 → h * 2 + a - (x * 2 + min a b) ≡ (h - x) * 2 + (a - b)
 without-low h x a b l p q = let m : a - min a b ≡ a - b = omega arith in omega arith
 
@@ -67,19 +67,19 @@ bit-sub a b h k =
 abbrev pub isSet : ℕ → ℕ → Bool
 isSet v k = eqb (bitAt v k) 1
 
--- a bit of a union is set where it is set in either,
+-- a bit of a union is set if and only if it is set in one of the two,
 pub or-set : (v w k : ℕ) → isSet (bitOr v w) k ≡ (isSet v k || isSet w k)
 or-set v w k = rw (or-bit v w k) (bit-max (bitAt v k) (bitAt w k) (omega arith) (omega arith))
 
--- of a difference where it is set in the one and not in the other,
+-- a bit of a difference if it is set in the first and not in the second,
 pub without-set : (v w k : ℕ) → isSet (v - bitAnd v w) k ≡ (isSet v k && not (isSet w k))
 without-set v w k = rw (without-bit k v w) (bit-sub (bitAt v k) (bitAt w k) (omega arith) (omega arith))
 
--- of 0 never,
+-- a bit of 0 never,
 pub none-set : (k : ℕ) → isSet 0 k ≡ false
 none-set k = rw (zero-div (2 ^ k))
 
--- and of a power of two where it is that one
+-- and a bit of a power of two if it is that bit
 pub power-set : (k j : ℕ) → isSet (2 ^ k) j ≡ eqb k j
 power-set zero zero = refl
 power-set zero (suc j) = rw (halved 1 j, zero-div (2 ^ j)) (sym (ne-eqb 0 (suc j) (λ e. omega arith)))

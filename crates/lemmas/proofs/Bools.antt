@@ -1,4 +1,4 @@
--- Truth values and options: what cannot be, and what two values have in common.
+-- Booleans and options: contradictions and equality tests.
 use mathlib.Core.Path.{_≡_, refl, sym}
 use mathlib.Core.Bool.{Bool, true, false, cond, _||_, Bool·beq, true≢false}
 use mathlib.Core.Option.{none, some, Option·none-ne-some}

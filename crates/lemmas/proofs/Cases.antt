@@ -5,7 +5,7 @@ use Prim.Native.Nat.{ℕ}
 use native.Mathlib.Omega.{arith}
 use borrow.Author.Tests.{lt-ltb, le-ltb, le-leb, lt-leb, eq-eqb, ne-eqb}
 
--- From 0 ≡ 1, which `cc` finds where two constructors are said to be equal, anything follows.
+-- From 0 ≡ 1 anything follows. `cc` derives it from an equation between two different constructors.
 pub impossible : {A : Type 0} → _≡_ {A = ℕ} 0 1 → A
 impossible e = absurd (omega (arith, e))
 
@@ -28,7 +28,7 @@ pub byCases : {A : Type 0} (t : Bool) → (t ≡ true → A) → (t ≡ false �
 byCases true f g = f refl
 byCases false f g = g refl
 
--- what holds in both cases of a test holds of what the test chooses
+-- what holds in both cases of a test holds for the case that the test selects
 pub either-case : {A : Type 0} (P : A → Type 0) (t : Bool) (a b : A) → (t ≡ true → P a) → (t ≡ false → P b)
     → P (cond t a b)
 either-case P true a b f g = f refl

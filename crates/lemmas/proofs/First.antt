@@ -1,4 +1,4 @@
--- Laws of the first place at which a test holds, and of a loop that looks for it.
+-- Laws of the first index at which a test holds, and of a loop that searches for it.
 use mathlib.Core.Path.{_≡_, refl, sym, _∙_}
 use mathlib.Core.Bool.{Bool, true, false, cond}
 use mathlib.Core.List.{List, [], _∷_, map}
@@ -12,7 +12,7 @@ use Rattle.lemmas.proofs.Cases.{byCases}
 use Rattle.lemmas.specs.First.{firstIndex}
 
 module _ {A : Type 0} (p : A → Bool) (l : List A) where
-  -- a search that stands at i: none of the first i passes
+  -- the invariant of a search at index i: none of the first i elements passes
   pub first-start : firstIndex p l ≡ 0 + firstIndex p (drop 0 l)
   first-start = sym (zero-add (firstIndex p l))
 
@@ -39,7 +39,7 @@ first-le p (x ∷ xs) = go (p x) (first-le p xs)
     go true h = omega arith
     go false h = omega arith
 
--- what is found passes the test
+-- the element found passes the test,
 pub first-holds : {A : Type 0} (p : A → Bool) (l : List A) (d : A) → firstIndex p l < length l
     → p (getD l (firstIndex p l) d) ≡ true
 unfolding firstIndex
@@ -52,7 +52,7 @@ first-holds p (x ∷ xs) d h = go (p x) refl (λ k. first-holds p xs d k) h
     go true e f k = e
     go false e f k = f (omega arith)
 
--- and is the first to
+-- and is the first that does
 pub first-least : {A : Type 0} (p : A → Bool) (l : List A) (d : A) (i : ℕ) → p (getD l i d) ≡ true → firstIndex p l ≤ i
 unfolding firstIndex
 first-least p [] d i e = omega arith
@@ -61,7 +61,7 @@ first-least p (x ∷ xs) d (suc i) e =
     byCases (p x) (λ t. rw t (omega arith)) (λ t. rw t (omega (arith, first-least p xs d i e)))
 
 module _ {A : Type 0} (p : A → Bool) where
-  -- what is stored where none before it passes is found if it passes,
+  -- an element that passes is found where it is stored, if none before it passes,
   pub first-set : (l : List A) (k : ℕ) (y : A) → k < length l → k ≤ firstIndex p l → p y ≡ true
       → firstIndex p (set l k y) ≡ k
   unfolding firstIndex
@@ -72,7 +72,7 @@ module _ {A : Type 0} (p : A → Bool) where
       (λ t. absurd (not-suc-le-zero (rw t at g)))
       (λ t. rw (t, first-set xs k y (le-of-suc-le-suc h) (le-of-suc-le-suc (rw t at g)) e))
 
-  -- and what does not pass changes nothing in the place of what does not
+  -- and replacing an element that does not pass by another changes nothing
   pub first-other : (l : List A) (k : ℕ) (y d : A) → p (getD l k d) ≡ false → p y ≡ false
       → firstIndex p (set l k y) ≡ firstIndex p l
   unfolding firstIndex

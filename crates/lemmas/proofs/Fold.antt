@@ -1,4 +1,4 @@
--- A loop that gathers one number from all elements of an array.
+-- A loop that folds an array to one number.
 use mathlib.Core.Path.{_≡_}
 use mathlib.Core.List.{List, [], _∷_}
 use Prim.Native.Nat.{ℕ, zero, suc, _+_, _<_}
@@ -10,18 +10,18 @@ use lib.Seq.{drop-cons, drop-length}
 use Rattle.lemmas.specs.Fold.{foldMap}
 
 module _ {A : Type 0} (op : ℕ → ℕ → ℕ) (f : A → ℕ) where
-  -- a loop that goes down over an array: before it,
+  -- the invariant of a loop that goes down over an array: at its start,
   pub foldMap-start : (n : ℕ) (l : List A) → length l ≡ n → 0 ≡ foldMap op f (drop n l)
   unfolding foldMap
   foldMap-start n l e = rw (← e, drop-length l)
 
-  -- and in a turn
+  -- and after a turn
   pub foldMap-turn : {v w : ℕ} (i : ℕ) (d : A) (l : List A) → i < length l → v ≡ foldMap op f (drop (i + 1) l)
       → w ≡ f (getD l i d) → op w v ≡ foldMap op f (drop i l)
   unfolding foldMap
   foldMap-turn {v} {w} i d l h inv e = rw (drop-cons l i d h, e, inv, add-one i)
 
--- in a sum one element is replaced: its own number goes and the new one's comes
+-- if one element is replaced, its number leaves the sum and the new one's enters
 pub sum-set : {A : Type 0} (f : A → ℕ) (l : List A) (k : ℕ) (y d : A) → k < length l
     → foldMap _+_ f (set l k y) + f (getD l k d) ≡ foldMap _+_ f l + f y
 unfolding foldMap

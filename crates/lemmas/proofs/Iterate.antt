@@ -10,13 +10,13 @@ module _ {S : Type 0} (step : ℕ → S → S) where
   unfolding iterate
   iterate-start s = refl
 
-  -- one turn of a loop: next is the state so far, and y the state that the turn makes
+  -- one turn of a loop: next is the state before it, and y the state after it
   pub iterate-turn : {next y : S} (k : ℕ) (s : S) → next ≡ iterate step k s → y ≡ step k next
       → y ≡ iterate step (k + 1) s
   unfolding iterate
   iterate-turn k s inv e = rw add-one (e ∙ ap (step k) inv)
 
--- What holds of the first state, and is kept by each step, holds of the last.
+-- An invariant: what holds of the first state, and is preserved by each step, holds of the last.
 pub iterate-invariant : {S : Type 0} (step : ℕ → S → S) (P : S → Type 0) (n : ℕ) (s : S) → P s
     → ((k : ℕ) (r : S) → k < n → P r → P (step k r)) → P (iterate step n s)
 unfolding iterate

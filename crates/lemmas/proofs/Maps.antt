@@ -22,13 +22,13 @@ module _ {A : Type 0} (f : A → A) where
   same-suc zero d (x ∷ l) h e = ap (λ (y : A). y ∷ l) e
   same-suc (suc i) d (x ∷ l) h e = ap (λ (t : List A). f x ∷ t) (same-suc i d l (le-of-suc-le-suc h) e)
 
-  -- what a turn reads is still the list's own element
+  -- the element that a turn reads is still the original one
   map-read : (i : ℕ) (d : A) (l : List A) → getD (mapTo f i l) i d ≡ getD l i d
   map-read zero d l = refl
   map-read (suc i) d [] = refl
   map-read (suc i) d (x ∷ l) = map-read i d l
 
-  -- one turn: next is the list so far, and y what the turn stores
+  -- one turn: next is the list before it, and y the stored element
   pub map-turn : {next : List A} {y : A} (i : ℕ) (d : A) (l : List A) → i < length l → next ≡ mapTo f i l
       → y ≡ f (getD next i d) → set next i y ≡ mapTo f (i + 1) l
   map-turn {next} {y} i d l h inv e = rw (e, inv, map-read i d l, add-one) (step-suc i d l h)
@@ -51,7 +51,7 @@ module _ {A : Type 0} (f : A → A) where
   map-end (suc i) [] h = refl
   map-end (suc i) (x ∷ l) h = ap (λ (t : List A). f x ∷ t) (map-end i l (le-of-suc-le-suc h))
 
--- after one store every element is what it was, or is what was stored
+-- after one store every element is unchanged or is the stored one
 pub set-or : {A : Type 0} (l : List A) (k i : ℕ) (y d : A)
     → (getD (set l k y) i d ≡ getD l i d) ⊎ ((i ≡ k) × (getD (set l k y) i d ≡ y))
 set-or [] k i y d = inl refl

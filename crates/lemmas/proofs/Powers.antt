@@ -6,7 +6,7 @@ use native.Mathlib.Omega.{arith}
 use lib.Pow.{pow-lt, pow-add, shr-lt, ones-lt}
 use lib.Arith.{digits-lt}
 
--- what a shift of 1 gives
+-- 1 shifted left by k
 pub one-shl : (w k : ℕ) → k < w → (1 * 2 ^ k) % 2 ^ w ≡ 2 ^ k
 one-shl w k h = rw one-mul (mod-eq-of-lt (pow-lt h))
 

@@ -1,4 +1,4 @@
--- Two tests that hold together.
+-- Tests that are equivalent.
 use mathlib.Core.Path.{_≡_, refl, sym, _∙_}
 use mathlib.Core.Bool.{Bool, true, false}
 use Prim.Native.Nat.{ℕ, _+_, _-_, _^_, _<_, _≤_}
@@ -22,7 +22,7 @@ sub-leb k a b h = same-leb k (b - a) (a + k) b (λ l. omega arith) (λ l. omega 
 pub past-leb : (k a b : ℕ) → b < a → false ≡ leb (a + k) b
 past-leb k a b h = sym (lt-leb (a + k) b (omega arith))
 
--- what does not fit into 64 bits is past everything that does
+-- a sum that does not fit 64 bits is larger than any 64-bit number
 pub over-ltb : (last first offset : ℕ) → last < 2 ^ 64 → 2 ^ 64 - 1 - first < offset → ltb last (first + offset) ≡ true
 over-ltb last first offset h k = lt-ltb last (first + offset) (omega arith)
 

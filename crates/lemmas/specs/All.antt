@@ -1,4 +1,4 @@
--- Does a test hold of every number below n? Serves 01, "Completion for a TR, data".
+-- Does a test hold for every number below n? Serves 01, "Completion for a TR, data".
 use mathlib.Core.Bool.{Bool, true, _&&_}
 use Prim.Native.Nat.{ℕ, zero, suc}
 

@@ -1,4 +1,4 @@
--- One number from all elements of a list: a sum, or the union of sets that are kept as bits. Serves 01, "Drain", "Page requests".
+-- A fold of a list to one number: a sum, or a union of bit sets. Serves 01, "Drain", "Page requests".
 use mathlib.Core.List.{List, [], _∷_}
 use Prim.Native.Nat.{ℕ}
 

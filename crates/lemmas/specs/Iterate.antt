@@ -1,4 +1,4 @@
--- A state that is stepped n times; step k is given its number. Serves 01, "Completion for a TR, data".
+-- A step function iterated n times; step k gets its number k. Serves 01, "Completion for a TR, data".
 use Prim.Native.Nat.{ℕ, zero, suc}
 
 unfoldable pub iterate : {S : Type 0} → (ℕ → S → S) → ℕ → S → S

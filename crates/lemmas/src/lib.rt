@@ -1,1 +1,1 @@
-// Laws that the proofs of many crates cite; there is no code here.
+// Lemmas that the proofs of many crates use. There is no code here.

@@ -1,4 +1,4 @@
--- Whatever the blocks, what a program writes is the listing of the input.
+-- For any blocks, the output of a program is the listing of the input.
 use Prim.Native.Nat.{ℕ, _+_, _-_, _*_, _/_, _^_, _≤_, _<_}
 use mathlib.Core.Path.{_≡_, refl, _∙_}
 use mathlib.Core.Bool.{Bool, true, false, cond}
@@ -51,7 +51,7 @@ numberAfter-most k (c ∷ cs) =
     let q = numberAfter-most k cs in
     most-case (eqb c 10) (numberAfter (k + 1) cs) (numberAfter k cs) (k + length (c ∷ cs)) (omega arith) (omega arith)
 
--- what stands at the start of a buffer that has room for it leaves the buffer as long as it was
+-- writing to the start of a buffer that has room does not change its length
 start-long : (s l : List ℕ) → length s ≤ length l → length (s ++ drop (length s) l) ≡ length l
 start-long s l h = rw (length-append, length-drop) (omega arith)
 
@@ -70,7 +70,7 @@ fed-whole from hold b out h room few = rw (le-ltb (length hold) 289 h, takes-all
 
 -- ---- every step
 
--- the joined parts, for a line of which p is held
+-- the concatenated parts, for a line whose kept start is p
 parts : (n : ℕ) (from : Progress) (hold out p : List ℕ) (bs : List (List ℕ)) → 289 ≤ length hold → 64 ≤ length out
     → n * 64 ≤ length out → AllAtMost n bs
     → from .number + length (concat bs) < 2 ^ 64 → startIn (from .held) hold ≡ p

@@ -1,5 +1,4 @@
--- What a caller needs of a call: that it stays within what was lent, and that the next call
--- finds what the last one kept.
+-- What a caller needs of a call: it stays within its buffers, and the next call finds what the last one kept.
 use Prim.Native.Nat.{ℕ, _≤_, min}
 use mathlib.Core.Path.{_≡_, refl, ap}
 use mathlib.Core.Bool.{cond}
@@ -26,7 +25,7 @@ pub finish-readies : (from : Progress) (hold out : List ℕ) (n : ℕ) (o : List
 unfolding finished
 finish-readies from hold out n o e l = row-within (lastText (from .number) (startIn (from .held) hold)) out n o e l
 
--- what is held after a piece is the start of the line that the piece left
+-- after a piece, the kept characters are the start of the unfinished line
 pub start-kept : (s hold : List ℕ)
     → startIn (length (first289 s)) (first289 s ++ drop (length (first289 s)) hold) ≡ first289 s
 start-kept s hold =

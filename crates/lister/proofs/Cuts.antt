@@ -1,4 +1,4 @@
--- What is printed does not depend on how the input is cut into pieces.
+-- The output does not depend on how the input is cut into pieces.
 use Prim.Native.Nat.{ℕ, zero, suc, _+_, _<_}
 use mathlib.Core.Path.{_≡_, refl, sym, ap, _∙_}
 use mathlib.Core.Bool.{Bool, true, false, cond}
@@ -103,7 +103,8 @@ pub lastText-cut : (k : ℕ) (p : List ℕ) → lastText k (first289 p) ≡ last
 lastText-cut k [] = refl
 lastText-cut k (c ∷ p) = sym (lineText-cut k (c ∷ p))
 
--- what is printed of pieces one after the other, with the start of a line cut after each, and at last of the last line
+-- the output for pieces one after the other, with the kept start of a line cut to 289 after each, and at
+-- the end that of the last line
 unfoldable pub inPieces : ℕ → List ℕ → List (List ℕ) → List ℕ
 inPieces k p [] = lastText k p
 inPieces k p (b ∷ bs) = printed k p b ++ inPieces (numberAfter k b) (first289 (startAfter p b)) bs
@@ -131,7 +132,7 @@ pieces-rest k p (b ∷ bs) =
     ap (λ (l : List ℕ). printed k p b ++ l) (pieces-rest (numberAfter k b) (first289 (startAfter p b)) bs ∙ rest-cut (numberAfter k b) (startAfter p b) (concat bs))
     ∙ rest-append k p b (concat bs)
 
--- the listing of the whole input, whatever the pieces
+-- it is the listing of the whole input, for any pieces
 pub any-pieces : (bs : List (List ℕ)) → inPieces 1 [] bs ≡ listing (concat bs)
 unfolding listing rest-of
 any-pieces bs = pieces-rest 1 [] bs

@@ -32,7 +32,7 @@ pub no-feed-more : (cs : List ℕ) (i : ℕ) → i < length cs → noFeed (take 
 unfolding noFeed
 no-feed-more cs i h e w = rw (add-one, take-suc cs i 0 h, noFeed-append, e, ne-eqb (getD cs i 0) 10 w)
 
--- a hex digit is no line feed
+-- a hex digit is not a line feed
 digit : (c : ℕ) (t : Bool) → eqb c 10 ≡ t → isHex c ≡ true → not t ≡ true
 digit c false e h = refl
 digit c true e h = absurd (true≢false (sym h ∙ ap isHex (eqb-true c 10 e)))
@@ -113,7 +113,8 @@ module _ (k : ℕ) (cs : List ℕ) (taken n : ℕ) (w : WholeLines k cs taken n)
           rw (next, numberAfter-append, ← w .2) (sym (number-line (take end (drop taken cs)) (e .1) [] n)),
         )
 
-    pub printed-more : printed k [] (take (taken + (end + 1)) cs) ≡ printed k [] (take taken cs) ++ lineText n (take end (drop taken cs))
+    pub printed-more : printed k [] (take (taken + (end + 1)) cs)
+        ≡ printed k [] (take taken cs) ++ lineText n (take end (drop taken cs))
     unfolding printed
     printed-more =
         ap (printed k []) next ∙ printed-append k [] (take taken cs) (take end (drop taken cs) ++ 10 ∷ [])

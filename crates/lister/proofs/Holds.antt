@@ -1,4 +1,4 @@
--- What a hold stands for, and what is put after it.
+-- The kept start of a line, and what is appended to it.
 use mathlib.Core.Path.{_≡_, refl, sym, ap, _∙_}
 use mathlib.Core.Bool.{Bool, true, false}
 use mathlib.Core.List.{List, [], _∷_, _++_}
@@ -23,7 +23,7 @@ cut-after p cs h =
     let e : 289 ≡ length p + (289 - length p) = omega arith in
     sym (ap (λ (n : ℕ). take n (p ++ cs)) e ∙ take-append-add p cs (289 - length p))
 
--- a line of which p was held, put together in an empty row
+-- a line with the kept start p, assembled in an empty array
 pub held-cut : (p cs l₀ l₁ l₂ : List ℕ) (a n : ℕ) → length p ≤ 289 → Laid 0 (take 289 p) l₀ a l₁
     → Laid a (take (289 - a) cs) l₁ n l₂ → take n l₂ ≡ first289 (p ++ cs)
 held-cut p cs l₀ l₁ l₂ a n h f g =
@@ -35,7 +35,7 @@ pub line-out : (k : ℕ) (cs : List ℕ) → outLine k (lineRead (first289 cs)) 
 unfolding lineText
 line-out k cs = sym (lineText-cut k cs)
 
--- characters put after those that are held
+-- characters appended to the kept ones
 pub kept-cut : (held : ℕ) (hold cs : List ℕ) (n : ℕ) (m : List ℕ) → held ≤ 289 → held ≤ length hold
     → Laid held (take (289 - held) cs) hold n m
     → Laid 0 (first289 (take held hold ++ cs)) hold n m
@@ -44,7 +44,7 @@ kept-cut held hold cs n m h l p =
     let c : take held hold ++ take (289 - held) cs ≡ first289 (take held hold ++ cs) = rw e at (cut-after (take held hold) cs (omega arith)) in
     rw c at (laid-after held (take (289 - held) cs) hold n m l p)
 
--- ---- what is held at first
+-- ---- what is kept at the start
 
 start-case : (t : Bool) (m : ℕ) (hold : List ℕ) → leb m (length hold) ≡ t
     → take (min m (length hold)) hold ≡ take m hold
@@ -77,7 +77,8 @@ finish-line from hold out p e h = rw (← e, last-line (from .number) p h)
 
 pub fed-none : (from : Progress) (hold block out : List ℕ) (s : ℕ) → length hold < 289
     → take s hold ≡ startIn (from .held) hold → s ≤ length hold
-    → (record { progress = record { number = from .number; held = s }; taken = 0; ready = 0 }, hold, out) ≡ fed from hold block out
+    → (record { progress = record { number = from .number; held = s }; taken = 0; ready = 0 }, hold, out)
+    ≡ fed from hold block out
 unfolding fed printed numberAfter startAfter
 fed-none from hold block out s short e h =
     let n : length (take s hold) ≡ s = length-take-le s hold h in
@@ -88,14 +89,15 @@ pub fed-some : (from : Progress) (hold block out : List ℕ) (s t n h w : ℕ) (
     → t ≡ takes (from .number) (length block) (length out) → n ≡ numberAfter (from .number) (take t block)
     → Laid 0 (first289 (startAfter (take s hold) (take t block))) hold h hold′
     → Laid 0 (printed (from .number) (take s hold) (take t block)) out w out′
-    → (record { progress = record { number = n; held = h }; taken = t; ready = w }, hold′, out′) ≡ fed from hold block out
+    → (record { progress = record { number = n; held = h }; taken = t; ready = w }, hold′, out′)
+    ≡ fed from hold block out
 unfolding fed
 fed-some from hold block out s t n h w hold′ out′ room e f m a b =
     let x = at-start (first289 (startAfter (take s hold) (take t block))) hold h hold′ a in
     let y = at-start (printed (from .number) (take s hold) (take t block)) out w out′ b in
     rw (le-ltb (length hold) 289 room, ← f, ← e) (λ i. (record { progress = record { number = m i; held = x i .0 }; taken = t; ready = y i .0 }, x i .1, y i .1))
 
--- as many characters as there are, or as there is room for
+-- as many characters as there are, or as fit
 pub take-least : (m n : ℕ) (cs : List ℕ) → n ≡ min m (length cs) → take n cs ≡ take m cs
 take-least m n cs e = rw e (start-case (leb m (length cs)) m cs refl)
 

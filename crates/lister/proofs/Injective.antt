@@ -1,4 +1,4 @@
--- What a line says is determined by its result.
+-- The result of a line determines the code's answer.
 use Prim.Native.Nat.{ℕ}
 use mathlib.Core.Path.{_≡_, refl, sym, ap, _∙_}
 use mathlib.Core.Bool.{cond}

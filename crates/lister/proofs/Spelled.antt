@@ -1,4 +1,4 @@
--- A line of hex digits and the bytes that it spells.
+-- A line of hex digits and the bytes that it encodes.
 use mathlib.Core.Path.{_≡_, _∙_}
 use mathlib.Core.List.{List}
 use Prim.Native.Nat.{ℕ, _+_, _*_, _%_, _≤_, _<_}
@@ -29,7 +29,7 @@ module _ (cs bytes : List ℕ) (n : ℕ) (h : length cs ≤ 288) (e : length cs 
       let less : n * 2 < length cs = omega arith in
       even-line cs h e ∙ rw (no-byte cs (n * 2) (r .3) (omega arith) (r .5 (omega arith) (omega arith)))
 
--- the run of a line is that of what the line is the start of
+-- the decoded bytes of a line are those of any text that begins with it
 pub run-of-line : (cs bytes : List ℕ) (n end : ℕ) → HexRun cs n bytes → n * 2 ≤ end → end ≤ length cs
     → HexRun (take end cs) n bytes
 run-of-line cs bytes n end r h l =

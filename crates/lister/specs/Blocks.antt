@@ -1,4 +1,4 @@
--- A program feeds an input block by block, writes what is ready after each call, and finishes: whatever the blocks, what it writes is the listing of the input. 01, "Listing program".
+-- A program feeds an input block by block, writes what is ready after each call, and finishes. For any blocks, its output is the listing of the input. 01, "Listing program".
 use Prim.Native.Nat.{ℕ, _+_, _*_, _^_, _≤_, _<_}
 use mathlib.Core.Path.{_≡_}
 use mathlib.Core.List.{List, [], _∷_}
@@ -8,8 +8,8 @@ use Rattle.lister.specs.Stream.{listing}
 use Rattle.lister.specs.Pieces.{initialProgress, fed, finished}
 use Rattle.lister.specs.Cuts.{concat}
 
--- The parts that are handed out, one for each block and one at the end: after each call the first bytes
--- of out, as many as are ready.
+-- The parts of the output, one for each block and one at the end: after each call, the bytes that
+-- are ready at the start of `out`.
 unfoldable pub handedOut : Progress → List ℕ → List ℕ → List (List ℕ) → List (List ℕ)
 handedOut from hold out [] =
     let last = finished from hold out in
@@ -27,7 +27,7 @@ abbrev pub BlocksFit : ℕ → List ℕ → List ℕ → List (List ℕ) → Typ
 BlocksFit n hold out bs =
     (289 ≤ length hold) × (64 ≤ length out) × (n * 64 ≤ length out) × AllAtMost n bs × (1 + length (concat bs) < 2 ^ 64)
 
--- the parts handed out, joined, are the listing of the blocks joined
+-- the concatenated parts are the listing of the concatenated blocks
 abbrev pub AnyBlocks : Type 0
 AnyBlocks =
     (n : ℕ) (hold out : List ℕ) (bs : List (List ℕ)) → BlocksFit n hold out bs

@@ -1,4 +1,4 @@
--- Pieces of an input, joined. Serves 01, "Listing program".
+-- Pieces of an input, concatenated. Serves 01, "Listing program".
 use Prim.Native.Nat.{ℕ}
 use mathlib.Core.List.{List, [], _∷_, _++_}
 

@@ -11,8 +11,8 @@ use Rattle.rows.specs.Rows.{outLine}
 use Rattle.lister.specs.declared.Line.{Line}
 use Rattle.lister.specs.declared.Line.the-variants.{Read, Refused, Unreadable}
 
--- The length is tested before the characters: more than 288 of them give 1. What is no hex, by its count or by one of
--- its characters, gives 0. Bytes are then read as a packet.
+-- The length is tested before the characters: a line of more than 288 is refused with 1. A line that is not hex, by its
+-- length or one of its characters, is refused with 0. Otherwise its bytes are read as a packet.
 unfoldable pub lineRead : List ℕ → Result Packet
 lineRead cs =
     refuse 1 (ltb 288 (length cs))
@@ -20,7 +20,7 @@ lineRead cs =
     (check 0 (allHex cs)
     (reading (unhex cs))))
 
--- the result that a line stands for
+-- the result of an answer of the code
 abbrev pub lineResult : Line → Result Packet
 lineResult (Read p) = ok p
 lineResult (Refused r) = refusal (numberOf r)

@@ -1,4 +1,4 @@
--- Bytes spelled by the characters at the start of a list. Serves 01, "Listing program".
+-- Bytes decoded from the characters at the start of a list. Serves 01, "Listing program".
 use Prim.Native.Nat.{ℕ, _+_, _*_, _≤_, _<_}
 use mathlib.Core.Path.{_≡_}
 use mathlib.Core.Bool.{true, false, _&&_}
@@ -6,8 +6,8 @@ use mathlib.Core.List.{List}
 use lib.ListN.{length, take, getD}
 use Rattle.text.specs.Digits.{isHex, allHex, unhex}
 
--- The first n pairs of cs spell the first n of bytes, and the next pair spells none: it is the 145th, or there is none,
--- or it has a character that is no digit.
+-- The first n pairs of cs decode to the first n of bytes, and the next pair does not count: it is the 145th, or does
+-- not exist, or has a character that is not a hex digit.
 abbrev pub HexRun : List ℕ → ℕ → List ℕ → Type 0
 HexRun cs n bytes =
     (n ≤ 144)

@@ -1,11 +1,11 @@
-// Bytes out of hex.
+// Decodes bytes from hex.
 ghost use mathlib.Core.Path.{_≡_};
 ghost use Prim.Native.Nat.{_+_, _*_, _≤_, _<_};
 ghost use lib.ListN.{length};
 ghost use Rattle.text.specs.Digits.{hexValue, hexValues};
 ghost use Rattle.lister.specs.Runs.{HexRun};
 
-// How many bytes at most so many characters can spell, with no more than a packet has.
+// The most bytes that this number of characters can encode, at most 144.
 fn most(characters: usize) -> usize
     ensures { λ r. ⌜ (r ≤ 144) × (r * 2 ≤ characters) × (r < 144 → characters < r * 2 + 2) ⌝ }
 {
@@ -23,7 +23,7 @@ fn value(values: &[u8; 256], c: u8) -> u8
     values[c as usize]
 }
 
-// The bytes that the characters spell, up to a character that is no digit.
+// Decodes bytes up to a character that is not a hex digit, and returns their number.
 pub(crate) fn run(cs: &[u8], bytes: &mut [u8; 144], values: &[u8; 256]) -> usize
     requires { ⌜ (length (now bytes) ≡ 144) × (now values ≡ hexValues) ⌝ }
     ensures { λ r. ⌜ HexRun (now (cs .entry)) r (now (bytes .exit)) ⌝ }

@@ -12,8 +12,8 @@ ghost use Rattle.lister.specs.Line.{lineResult, lineRead, lineText};
 ghost use Rattle.lister.specs.Runs.{HexRun};
 ghost use Rattle.lister.specs.Pieces.{initialProgress, fed, finished};
 
-// What a line says: a packet; a refusal, which for a line too long is the packet's own; or
-// characters that are no bytes in hex.
+// What a line holds: a packet; a refusal, which for too long a line is that of a too long packet;
+// or characters that are not bytes in hex.
 pub enum Line {
     Read(Packet),
     Refused(Refusal),
@@ -29,7 +29,7 @@ fn line_of(r: Reading) -> Line
     }
 }
 
-// What a line says of which n bytes were spelled.
+// The content of a line whose first n bytes were decoded.
 pub(crate) fn read_run(line: &[u8], n: usize, bytes: &[u8]) -> Line
     requires { ⌜ HexRun (now line) n (now bytes) ⌝ }
     ensures { λ r. ⌜ lineResult r ≡ lineRead (now (line .entry)) ⌝ }
@@ -46,6 +46,7 @@ pub(crate) fn read_run(line: &[u8], n: usize, bytes: &[u8]) -> Line
     line_of(reader::read_packet(&bytes[..n]))
 }
 
+// Reads one line.
 pub fn read_line(line: &[u8]) -> Line
     ensures { λ r. ⌜ lineResult r ≡ lineRead (now (line .entry)) ⌝ }
 {
@@ -65,39 +66,39 @@ fn put_row(number: u64, line: Line, out: &mut [u8]) -> usize
     }
 }
 
-// The output line of line `number`, at the start of `out`, and its length. An `out` of fewer than 64
-// bytes, which is more than any line takes, is left as it was.
+// Writes the output line of line `number` to the start of `out` and returns its length. An `out` of
+// fewer than 64 bytes, more than any line needs, is left unchanged.
 pub fn list_line(number: u64, line: &[u8], out: &mut [u8]) -> usize
     ensures { λ r. ⌜ (r, now (out .exit)) ≡ rowIn (lineText number (now (line .entry))) (now (out .entry)) ⌝ }
 {
     put_row(number, read_line(line), out)
 }
 
-// Where the listing of an input stands: the number of the line that is not finished, and how many of
-// that line's characters the hold has.
+// The state between two blocks: the number of the unfinished line, and how many of its
+// characters are kept in `hold`.
 pub struct Progress {
     pub number: u64,
     pub held: usize,
 }
 
-// Before the first block.
+// The state before the first block.
 pub fn start() -> Progress
     ensures { λ r. ⌜ r ≡ initialProgress ⌝ }
 {
     Progress { number: 1, held: 0 }
 }
 
-// What a block left: where the listing then stands, how many of the block's characters were taken, and
-// how many bytes of output are ready, at the start of `out`, to be written before the next call.
+// The result of feeding a block: the next state, how many characters of the block were taken, and
+// how many bytes of output are ready at the start of `out`, to be written before the next call.
 pub struct Fed {
     pub progress: Progress,
     pub taken: usize,
     pub ready: usize,
 }
 
-// Takes the next block of the input, as much of it as `out` has room for at 64 bytes a character. The
-// first `held` characters of `hold` are the start of line `number`; of a line that is too long they are
-// the first 289, which show that it is. A `hold` that has no room for these takes nothing.
+// Takes the next block of the input, as much as `out` has room for at 64 bytes a character. The
+// first `held` characters of `hold` are the start of line `number`. Of too long a line only the
+// first 289 are kept. With a shorter `hold` nothing is taken.
 pub fn feed(from: Progress, hold: &mut [u8], block: &[u8], out: &mut [u8]) -> Fed
     ensures { λ r. ⌜ (r, now (hold .exit), now (out .exit)) ≡ fed from (now (hold .entry)) (now (block .entry)) (now (out .entry)) ⌝ }
 {
@@ -124,7 +125,8 @@ pub fn feed(from: Progress, hold: &mut [u8], block: &[u8], out: &mut [u8]) -> Fe
     }
 }
 
-// The output line of the last line, if the input does not end in a line feed, as `list_line` has it.
+// Writes the output line of the last line, if the input does not end in a line
+// feed, as `list_line` does.
 pub fn finish(from: Progress, hold: &[u8], out: &mut [u8]) -> usize
     ensures { λ r. ⌜ (r, now (out .exit)) ≡ finished from (now (hold .entry)) (now (out .entry)) ⌝ }
 {

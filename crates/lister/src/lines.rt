@@ -1,4 +1,4 @@
-// Lines found in a piece of the input.
+// Finds the lines in a piece of the input.
 use crate::hex;
 use crate::put_row;
 use crate::read_line;
@@ -13,13 +13,15 @@ ghost use Rattle.rows.specs.Places.{Laid};
 ghost use Rattle.lister.specs.Stream.{printed, numberAfter, startAfter, first289};
 ghost use Rattle.lister.specs.Pieces.{takes, noFeed, LineEnd};
 
+// The smaller of two numbers.
 pub(crate) fn least(a: usize, b: usize) -> usize
     ensures { λ r. ⌜ (r ≡ min a b) × (r ≤ a) × (r ≤ b) ⌝ }
 {
     if a < b { a } else { b }
 }
 
-// How much of a piece is taken: 64 bytes of room for each character, and a number for each line.
+// How many characters are taken: there must be 64 bytes of room for each, and a
+// 64-bit number for each line.
 pub(crate) fn takes(number: u64, block: usize, room: usize) -> usize
     ensures { λ r. ⌜ (r ≡ takes number block room) × (r ≤ block) × (r * 64 ≤ room) × (number + r < 2 ^ 64) ⌝ }
 {
@@ -31,7 +33,7 @@ pub(crate) fn takes(number: u64, block: usize, room: usize) -> usize
     }
 }
 
-// The place of the first line feed, and the length where there is none. There is none before `from`.
+// The index of the first line feed, or the length if there is none. None is before `from`.
 fn line_end(cs: &[u8], from: usize) -> usize
     requires { ⌜ (from ≤ length (now cs)) × (noFeed (take from (now cs)) ≡ true) ⌝ }
     ensures { λ r. ⌜ LineEnd (now (cs .entry)) r ⌝ }
@@ -46,7 +48,7 @@ fn line_end(cs: &[u8], from: usize) -> usize
     i
 }
 
-// Puts characters after the first `at` of a line that is held, up to the 289th of the line.
+// Appends characters to the first `at` kept ones of a line, up to the 289th.
 fn keep(hold: &mut [u8], at: usize, cs: &[u8]) -> usize
     requires { ⌜ (at ≤ 289) × (289 ≤ length (now hold)) ⌝ }
     ensures { λ r. ⌜ Laid at (take (289 - at) (now (cs .entry))) (now (hold .entry)) r (now (hold .exit)) ⌝ }
@@ -61,7 +63,7 @@ fn keep(hold: &mut [u8], at: usize, cs: &[u8]) -> usize
     at + n
 }
 
-// The line of which `hold` has the first `held` characters, and `cs` is the rest.
+// Lists the line whose first `held` characters are in `hold` and whose rest is `cs`.
 fn held_line(number: u64, held: usize, hold: &[u8], cs: &[u8], out: &mut [u8]) -> usize
     requires { ⌜ (held ≤ 289) × (289 ≤ length (now hold)) × (64 ≤ length (now out)) ⌝ }
     ensures { λ r. ⌜ Laid 0 (lineText number (take held (now (hold .entry)) ++ now (cs .entry))) (now (out .entry)) r (now (out .exit)) ⌝ }
@@ -73,15 +75,15 @@ fn held_line(number: u64, held: usize, hold: &[u8], cs: &[u8], out: &mut [u8]) -
     put_row(number, read_line(&line[..n]), out)
 }
 
-// What listing whole lines left: the next line's number, how many characters they have with their line
-// feeds, and the place after their output.
+// The result of listing whole lines: the number of the next line, how many characters the lines
+// have with their line feeds, and the end of their output.
 struct Whole {
     number: u64,
     taken: usize,
     at: usize,
 }
 
-// The lines that end in `cs`, put into `out` from `at` on.
+// Lists the lines that end in `cs`, into `out` from `at` on.
 fn whole_lines(number: u64, cs: &[u8], out: &mut [u8], at: usize) -> Whole
     requires { ⌜ (at + length (now cs) * 64 ≤ length (now out)) × (number + length (now cs) < 2 ^ 64) ⌝ }
     ensures { λ r. ⌜ (r .taken ≤ length (now (cs .entry))) × (drop (r .taken) (now (cs .entry)) ≡ startAfter [] (now (cs .entry))) × (r .number ≡ numberAfter number (now (cs .entry))) ⌝ }
@@ -115,13 +117,14 @@ fn whole_lines(number: u64, cs: &[u8], out: &mut [u8], at: usize) -> Whole
     }
 }
 
-// What a piece left, as `Fed` has it.
+// The result of a piece, as in `Fed`.
 pub(crate) struct Left {
     pub(crate) number: u64,
     pub(crate) held: usize,
     pub(crate) written: usize,
 }
 
+// Takes in a piece: lists the lines that end in it, and keeps the start of the next.
 pub(crate) fn take_in(number: u64, held: usize, hold: &mut [u8], cs: &[u8], out: &mut [u8]) -> Left
     requires { ⌜ (held ≤ 289) × (289 ≤ length (now hold)) × (length (now cs) * 64 ≤ length (now out)) × (number + length (now cs) < 2 ^ 64) ⌝ }
     ensures { λ r. ⌜ r .number ≡ numberAfter number (now (cs .entry)) ⌝ }

@@ -1,6 +1,6 @@
-// Lists the packets of standard input, one in hex a line, on standard output. What is read goes to
-// `lister`, block by block, and what `lister` has ready after each is written: its law `any-blocks` says
-// that this is the listing of the whole input. Output is written after each read, so that a person who
+// Lists the packets on standard input, one per line in hex, on standard output. Each block that is
+// read goes to `lister`, and what `lister` has ready is written. Its law `any-blocks` says that the
+// output is the listing of the whole input. Output is written after each read, so that a user who
 // types lines sees their listing at once.
 use libc::STDIN_FILENO;
 use libc::STDOUT_FILENO;
@@ -21,9 +21,9 @@ fn output_buffer() -> [u8; 1048576]
     [0; 1048576]
 }
 
-// A proved loop has to end, and nothing says that the input does: the turns are counted down, from a
-// number that no run uses up. A read that fails counts as the end of the input. A write that fails ends
-// the program, and so does a block that is not taken whole, for want of numbers below 2^64.
+// A proved loop has to terminate, but the input need not end. So the turns are counted down from a
+// number that no run uses up. A failed read counts as the end of the input. A failed write ends the
+// program. So does a block that is not taken whole, when line numbers below 2^64 run out.
 fn list_all(hold: &mut [u8], block: &mut [u8], out: &mut [u8])
     requires { ⌜ (289 ≤ length (now hold)) × (64 ≤ length (now out)) × (length (now block) * 64 ≤ length (now out)) ⌝ }
 {

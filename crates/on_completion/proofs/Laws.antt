@@ -29,7 +29,7 @@ use Rattle.on_completion.specs.Translations.{isLive, onTranslationStatus
 use Rattle.on_completion.specs.Completions.{completedFor, completed}
 
 module _ (f : Function) (c : Completion) (load : List ℕ) where
-  -- what holds of the tables, whatever the tag is open for then and with the translations of a live request
+  -- a property of the tables that holds for any new state of the tag, also with the translations of a live request
   -- applied, holds after a completion
   pub completed-keeps : (P : Cache → List TagRow → Pages → Type 0)
       → ((o : TagState) → P (f .cache) (setTag (f .tags) (c .tag) o) (f .pages))
@@ -53,7 +53,7 @@ module _ (f : Function) (c : Completion) (load : List ℕ) where
       go (Data dwords) (Read r) e = search (does, place)
       go (Status status) (Read r) e = search (does, place)
 
-  -- a read's tag is freed, or the answer is "payload, more" and the read stays open for what is still due
+  -- the tag of a read is freed, or the answer is "payload, more" and the read stays outstanding for the bytes still due
   abbrev pub Ended : PendingRead → Success → Type 0
   Ended r d = (d .state ≡ withTag f (c .tag) Free) ⊎ ((d .answer ≡ payloadMore) × (d .state ≡ withTag f (c .tag) (Read (withDue r (r .due - length load)))))
 

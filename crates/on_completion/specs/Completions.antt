@@ -1,4 +1,4 @@
--- A completion, by what its tag is open for: 7, 8. 01, "The seventeen numbers".
+-- A completion, by the state of its tag: refusals 7, 8. 01, "The seventeen numbers".
 use mathlib.Core.List.{List}
 use Prim.Native.Nat.{ℕ}
 use lib.ListN.{length}
@@ -14,7 +14,7 @@ use Rattle.state.specs.Answers.{tag, Success}
 use Rattle.on_completion.specs.Reads.{onReadData, onReadStatus}
 use Rattle.on_completion.specs.Translations.{onTranslationData, onTranslationStatus}
 
--- what a completion says to an open tag
+-- the effect of a completion on a tag in this state
 abbrev pub completedFor : Function → Completion → List ℕ → Outcome → TagState → Result Success
 completedFor f c load outcome Free = refusal 7
 completedFor f c load (Data dwords) (Translate q) = onTranslationData f (c .tag) q (c .count) (c .lower) load

@@ -14,8 +14,8 @@ abbrev pub withDue : PendingRead → ℕ → PendingRead
 withDue r due =
     record { address = r .address; bytes = r .bytes; due = due; translated = r .translated; itags = r .itags }
 
--- with data: Byte Count says what is still due, and the payload is no longer than that; once all has come the
--- tag is free, and delays no ITag
+-- with data: Byte Count must be the bytes still due, and the payload must not be longer; once all bytes have come the
+-- tag is free and delays no ITag
 unfoldable pub onReadData : Function → Tag → PendingRead → ℕ → ℕ → Result Success
 onReadData f t r count bytes =
     check 8 (eqb count (r .due))

@@ -16,7 +16,7 @@ use Rattle.state.specs.declared.Function.{Function}
 use Rattle.state.specs.State.{withEnable, withCache, withTag}
 use Rattle.state.specs.Answers.{Unrefused, Success, discarded, more, filled, aborted, switchedOff, sendsNothing}
 
--- no data: status 000 does not fit; 100 frees the tag; any other clears E too
+-- no data: status 000 does not fit; 100 frees the tag; any other also clears E
 unfoldable pub onTranslationStatus : Function → Tag → ℕ → Result Success
 onTranslationStatus f t status =
     refuse 8 (eqb status 0)
@@ -24,18 +24,20 @@ onTranslationStatus f t status =
     (sendsNothing (withTag f t Free) aborted)
     (sendsNothing (withEnable (withTag f t Free) false) switchedOff))
 
--- what comes for a stale request, or while E is clear, changes no entry
+-- data for a stale request, or while E is clear, change no entry
 abbrev pub isLive : Function → PendingTranslation → Bool
 isLive f q = f .enabled && not (q .stale)
 
--- a completion that fits: the entries, what its tag is open for then, and the answer of a live request
+-- A completion that fits: the tag gets the state o. If the request is live, the entries are updated and the answer is
+-- w; otherwise the data are discarded.
 unfoldable pub appliedIfLive : Function → Tag → PendingTranslation → List ℕ → TagState → Unrefused → Result Success
 appliedIfLive f t q load o w =
     cond (isLive f q)
     (sendsNothing (withTag (withCache f (applied q load (f .cache))) t o) w)
     (sendsNothing (withTag f t o) discarded)
 
--- the only packet off the boundary is discarded unread; "more" after a first of two, "filled" at the end
+-- an only packet off the boundary is discarded unread; the answer is "more" after a first packet and
+-- "filled" after the last
 abbrev pub onTranslationPart : Function → Tag → PendingTranslation → ℕ → List ℕ → Part → Result Success
 onTranslationPart f t q count load Misfit = refusal 8
 onTranslationPart f t q count load OffBoundary = sendsNothing (withTag f t Free) discarded

@@ -77,7 +77,7 @@ fn on_translation_status(f: Function, t: Tag, status: u8) -> Effect
     }
 }
 
-// May what comes for a request still be cached?
+// May data for a request still be cached?
 fn is_live(enabled: bool, stale: bool) -> bool
     ensures { λ r. ⌜ r ≡ (enabled && not stale) ⌝ }
 {
@@ -88,7 +88,7 @@ fn is_live(enabled: bool, stale: bool) -> bool
     }
 }
 
-// The entries that a completion makes.
+// Updates the cache with the translations of a completion.
 fn fill(f: Function, q: PendingTranslation, load: &[u8]) -> Function
     ensures { λ r. ⌜ r ≡ withCache f (applied q (now (load .entry)) (f .cache)) ⌝ }
 {
@@ -97,7 +97,7 @@ fn fill(f: Function, q: PendingTranslation, load: &[u8]) -> Function
     state::with_cache(f, next)
 }
 
-// A first packet of two that fits.
+// Takes the first of two packets, which fits.
 fn take_first(f: Function, t: Tag, q: PendingTranslation, count: u16, load: &[u8]) -> Effect
     ensures { λ e. ⌜ observed e [] ≡ commit f [] (onTranslationPart f t q count (now (load .entry)) Part.First) ⌝ }
 {
@@ -109,7 +109,7 @@ fn take_first(f: Function, t: Tag, q: PendingTranslation, count: u16, load: &[u8
     }
 }
 
-// The last packet, or the only one.
+// Takes the last packet, or the only one.
 fn take_last(f: Function, t: Tag, q: PendingTranslation, count: u16, load: &[u8]) -> Effect
     ensures { λ e. ⌜ observed e [] ≡ commit f [] (onTranslationPart f t q count (now (load .entry)) Part.Last) ⌝ }
 {
@@ -140,7 +140,7 @@ fn on_translation_data(
     }
 }
 
-// A completion for a Translation Request.
+// Handles a completion for a Translation Request.
 fn complete_translation(f: Function, c: Completion, q: PendingTranslation, load: &[u8]) -> Effect
     ensures { λ e. ⌜ observed e [] ≡ commit f [] (completedFor f c (now (load .entry)) (c .outcome) (TagState.Translate q)) ⌝ }
 {
@@ -151,7 +151,7 @@ fn complete_translation(f: Function, c: Completion, q: PendingTranslation, load:
     }
 }
 
-// A completion for a read.
+// Handles a completion for a read.
 fn complete_read(f: Function, c: Completion, r: PendingRead, load: &[u8]) -> Effect
     ensures { λ e. ⌜ observed e [] ≡ commit f [] (completedFor f c (now (load .entry)) (c .outcome) (TagState.Read r)) ⌝ }
 {
@@ -162,6 +162,7 @@ fn complete_read(f: Function, c: Completion, r: PendingRead, load: &[u8]) -> Eff
     }
 }
 
+// Handles a completion, according to the state of its tag.
 pub fn complete(f: Function, c: Completion, load: &[u8]) -> Effect
     ensures { λ e. ⌜ observed e [] ≡ commit f [] (completed f c (now (load .entry))) ⌝ }
 {

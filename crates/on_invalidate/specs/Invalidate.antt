@@ -18,7 +18,7 @@ use Rattle.state.specs.declared.Function.{Function}
 use Rattle.state.specs.State.{withAgent, withWaiting, withCache, withTags}
 use Rattle.state.specs.Answers.{Success, done, sendsNothing}
 
--- every body that was read has a size; where there were none, all that is cached would be old
+-- every request that is read has a size; without one the range would be the whole address space
 abbrev pub exponentOr64 : Size → ℕ
 exponentOr64 (Exponent e) = e
 exponentOr64 NoSize = 64
@@ -27,20 +27,20 @@ exponentOr64 NoSize = 64
 unfoldable pub invalidatedRange : ℕ → InvalidateRequest → Range
 invalidatedRange stu i = roundedOf (i .address) (exponentOr64 (sizeOf (i .address) (i .sized))) (unitExponent stu)
 
--- someone else than the agent; while none is known nobody is
+-- is the sender another than the known agent?
 abbrev pub isOtherAgent : Agent → ℕ → Bool
 isOtherAgent Unknown from = false
 isOtherAgent (Known id) from = not (eqb id from)
 
--- overlapping entries are deleted, overlapping requests marked stale, overlapping translated reads made to delay the
--- ITag; the ITag waits, and the sender is the agent
+-- overlapping entries are deleted, overlapping Translation Requests become stale, and overlapping translated reads
+-- delay the ITag; the ITag waits, and the sender is the agent
 abbrev pub invalidatedBy : Function → ℕ → InvalidateRequest → Function
 invalidatedBy f from i =
     let range = invalidatedRange (f .stu) i in
     let tables = withCache (withTags f (invalidatedTags range (i .itag) (f .tags))) (rangeDropped (f .stu) range (f .cache)) in
     withAgent (withWaiting tables (withItag (f .waiting) (i .itag))) (Known from)
 
--- 10, 9
+-- refusals 10, 9 in this order
 unfoldable pub invalidated : Function → ℕ → InvalidateRequest → Result Success
 invalidated f from i =
     refuse 10 (isOtherAgent (f .agent) from)

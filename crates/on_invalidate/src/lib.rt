@@ -1,4 +1,5 @@
-// Invalidate Requests: old entries go, old requests are marked, old reads delay the ITag.
+// Invalidate Requests: overlapping entries are deleted, overlapping Translation Requests become
+// stale, overlapping translated reads delay the ITag.
 use packet::InvalidateRequest;
 use packet::Refusal;
 use ranges::Range;
@@ -38,7 +39,7 @@ fn is_other_agent(agent: Agent, from: u16) -> bool
     }
 }
 
-// Old entries go, old requests are marked, old reads delay the ITag, before anything else can happen.
+// Deletes entries, marks Translation Requests stale and lets reads delay the ITag, all in one step.
 fn invalidate_by(f: Function, from: u16, i: InvalidateRequest) -> Function
     ensures { λ r. ⌜ r ≡ invalidatedBy f from i ⌝ }
 {
@@ -53,6 +54,7 @@ fn invalidate_by(f: Function, from: u16, i: InvalidateRequest) -> Function
     state::with_agent(state::with_waiting(next, waiting), agent)
 }
 
+// Handles an Invalidate Request from the agent `from`.
 pub fn invalidate(f: Function, from: u16, i: InvalidateRequest) -> Effect
     ensures { λ e. ⌜ observed e [] ≡ commit f [] (invalidated f from i) ⌝ }
 {

@@ -26,7 +26,7 @@ use Rattle.packet.specs.Reading.{readForm, readChoice, reading}
 use Rattle.packet.specs.Writing.{writing}
 use Rattle.packet.specs.Among.{isAmong}
 
--- what is refused is refused with a number of the list
+-- if the result is a refusal, its number is on the list
 pub record Among {A : Type 0} (l : List ℕ) (s : Result A) : Type 0 where
   pub one : (n : ℕ) → s ≡ refusal n → isAmong n l ≡ true
 
@@ -47,14 +47,14 @@ abbrev pub everyOne : (ℕ → Bool) → List ℕ → Bool
 everyOne p [] = true
 everyOne p (m ∷ l) = p m && everyOne p l
 
--- and so does one that is among them
+-- and so does any number on it
 pub every-one : (p : ℕ → Bool) (l : List ℕ) (n : ℕ) → everyOne p l ≡ true → isAmong n l ≡ true → p n ≡ true
 every-one p [] n h e = absurd (never-both _ e refl)
 every-one p (m ∷ l) n h e =
     let both = and-both (p m) (everyOne p l) h in
     byCases (eqb n m) (λ t. rw (eqb-true n m t) (both .0)) (λ t. every-one p l n (both .1) (rw t at e))
 
--- the numbers of a list are among those of a longer one
+-- a longer list of numbers holds too
 pub among-monotone : {A : Type 0} (l m : List ℕ) (s : Result A) → everyOne (λ n. isAmong n m) l ≡ true → Among l s
     → Among m s
 among-monotone l m s h x = record { one = λ n e. every-one (λ k. isAmong k m) l n h (x .one n e) }
@@ -69,26 +69,26 @@ reading-choice : (c : Choice) (f : Frame) (n : ℕ) → Among (1 ∷ 2 ∷ 3 ∷
 reading-choice (Listed m) f n = reading-form m f n
 reading-choice Unlisted f n = search among
 
--- what is read is refused with 1, 2, 3 or 4
+-- reading refuses only with 1, 2, 3 or 4
 pub reading-numbers : (b : List ℕ) → Among (1 ∷ 2 ∷ 3 ∷ 4 ∷ []) (reading b)
 unfolding reading
 reading-numbers b = search (among, reading-choice)
 
 -- ---- writing
 
--- what is written is refused with 12, 4 or 17
+-- writing refuses only with 12, 4 or 17
 pub writing-numbers : (p : Packet) (load room : ℕ) → Among (12 ∷ 4 ∷ 17 ∷ []) (writing p load room)
 unfolding writing
 writing-numbers p load room = search among
 
--- a packet that passes every test but that for room
+-- a packet that passes every test but the one for room
 pub record Sendable (p : Packet) (load : ℕ) : Type 0 where
   pub tc : p .head .tc < 8
   pub body : bodyInRange (p .body) ≡ true
   pub fills : load ≡ payloadLength (p .body)
   pub allows : allowed p ≡ true
 
--- is refused with 17 if at all
+-- is refused only with 17
 pub only-room : (l : List ℕ) (p : Packet) (load room : ℕ) → isAmong 17 l ≡ true → Sendable p load
     → Among l (writing p load room)
 unfolding writing

@@ -14,7 +14,7 @@ use Rattle.packet.specs.Numbers.{Result, ok, refusal, numberOf}
 use Rattle.packet.specs.Reading.{readResult}
 use Rattle.packet.specs.Writing.{writeResult}
 
--- the refusal of a number
+-- the refusal with a number
 unfoldable pub refusalOf : ℕ → Refusal
 refusalOf n =
     cond (eqb n 1) BadLength
@@ -55,11 +55,11 @@ refusal-back PagesNotOn = refl
 refusal-back NoCreditOrGroupWaits = refl
 refusal-back BufferTooShort = refl
 
--- no two refusals have one number,
+-- two refusals have different numbers,
 pub numberOf-injective : (r s : Refusal) → numberOf r ≡ numberOf s → r ≡ s
 numberOf-injective r s e = sym (refusal-back r) ∙ ap refusalOf e ∙ refusal-back s
 
--- and each has one of the seventeen
+-- and each number is one of the seventeen
 pub number-between : (r : Refusal) → (1 ≤ numberOf r) × (numberOf r ≤ 17)
 number-between BadLength = (lit≤ tt, lit≤ tt)
 number-between UnsupportedKind = (lit≤ tt, lit≤ tt)
@@ -79,7 +79,7 @@ number-between PagesNotOn = (lit≤ tt, lit≤ tt)
 number-between NoCreditOrGroupWaits = (lit≤ tt, lit≤ tt)
 number-between BufferTooShort = (lit≤ tt, lit≤ tt)
 
--- the answers that results stand for
+-- the answers that have these results
 
 readOf : Result Packet → Reading
 readOf (ok p) = Read p

@@ -1,4 +1,4 @@
--- What is given passed every test on its way.
+-- A successful result has passed every test.
 use mathlib.Core.Path.{_≡_, refl}
 use mathlib.Core.Bool.{Bool, true, false, cond}
 use Prim.Native.Nat.{ℕ, _+_, _<_, _≤_}
@@ -12,13 +12,13 @@ use Rattle.packet.specs.Kinds.{fieldsInRange, bodyInRange, allowed, payl
 use Rattle.packet.specs.Writing.{writing}
 
 module _ {A : Type 0} where
-  -- what was demanded holds
+  -- a check that was passed holds
   pub check-passed : (t : Bool) (n : ℕ) (next : Result A) {a : A} → cond t next (refusal n) ≡ ok a
       → (t ≡ true) × (next ≡ ok a)
   check-passed true n next e = (refl, e)
   check-passed false n next e = impossible cc
 
-  -- what is refused does not hold
+  -- a refused condition does not hold
   pub refuse-passed : (t : Bool) (n : ℕ) (next : Result A) {a : A} → cond t (refusal n) next ≡ ok a
       → (t ≡ false) × (next ≡ ok a)
   refuse-passed false n next e = (refl, e)
@@ -27,7 +27,8 @@ module _ {A : Type 0} where
   pub ok-injective : {a b : A} → ok a ≡ ok b → a ≡ b
   ok-injective e = cc
 
--- What writing accepts: every field within its bits, the payload that the packet asks for, nothing forbidden, and room.
+-- What writing accepts: every field fits its bits, the payload has the right length, no value is
+-- forbidden, and there is room.
 pub record Accepted (p : Packet) (load room n : ℕ) : Type 0 where
   pub tc : p .head .tc < 8
   pub body : bodyInRange (p .body) ≡ true

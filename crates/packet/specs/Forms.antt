@@ -1,4 +1,4 @@
--- The first column of the table of kinds: what byte 0, and for a message byte 7, say of a packet. 01, "The seven packets".
+-- The first column of the table of kinds: what byte 0, and for a message byte 7, determine. 01, "The seven packets".
 use Prim.Native.Nat.{ℕ, _+_, _*_, _/_, _%_}
 use mathlib.Core.Bool.{Bool, cond}
 use lib.Dec.{eqb}
@@ -7,7 +7,7 @@ use Rattle.packet.specs.declared.Choice.the-variants.{Listed, Unlisted}
 use Rattle.packet.specs.declared.Form.{Form}
 use Rattle.packet.specs.declared.Form.the-variants.{Mrd32, Mrd64, Mwr32, Mwr64, CplNoData, CplData, InvReq, InvCpl, PageReq, PrgResp}
 
--- byte 0 chooses the form, and among messages byte 7 does; what neither lists has none
+-- byte 0 selects the form, and byte 7 among messages; any other values are unlisted
 unfoldable pub choose : ℕ → ℕ → Choice
 choose b0 b7 =
     cond (eqb b0 0x00) (Listed Mrd32)
@@ -39,19 +39,21 @@ byte0Of PrgResp = 0x32
 abbrev pub headerLength : Form → ℕ
 headerLength m = cond (eqb (byte0Of m / 0x20 % 2) 0) 12 16
 
--- Bit 6 says whether 4 × Length bytes follow the header: in writes, completions with data and Invalidate Requests.
+-- Bit 6 says whether 4 × Length bytes follow the header. It is set in writes, completions with
+-- data and Invalidate Requests.
 abbrev pub carriesData : Form → Bool
 carriesData m = eqb (byte0Of m / 0x40 % 2) 1
 
--- how many DWORDs a Length stands for: 0 for 1024
+-- the number of DWORDs that a Length field stands for; 0 means 1024
 abbrev pub dwordCount : ℕ → ℕ
 dwordCount w = cond (eqb w 0) 1024 w
 
--- how many bytes a packet of this form and Length has
+-- the number of bytes of a packet of this form and Length
 abbrev pub packetLength : Form → ℕ → ℕ
 packetLength m w = cond (carriesData m) (headerLength m + dwordCount w * 4) (headerLength m)
 
--- the bytes before the payload: the header; of an Invalidate Request also its 8 bytes of data, which are fields
+-- the number of bytes before the payload: the header, and in an Invalidate Request also its 8
+-- bytes of data, which are fields
 abbrev pub payloadOffset : Form → ℕ
 payloadOffset m = cond (eqb (byte0Of m) (byte0Of InvReq)) (headerLength m + 8) (headerLength m)
 

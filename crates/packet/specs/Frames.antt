@@ -1,4 +1,4 @@
--- A header taken apart into a frame, and a frame spelled as bytes: byte 0 is the first on the wire, and numbers of several bytes have their high byte first. 01, "The seven packets".
+-- Decoding a header into a frame, and encoding a frame as bytes: byte 0 is the first on the wire, and numbers of several bytes have their high byte first. 01, "The seven packets".
 use Prim.Native.Nat.{ℕ, _+_, _*_, _/_, _%_, _^_}
 use mathlib.Core.Bool.{cond}
 use mathlib.Core.List.{List, [], _∷_, _++_}
@@ -10,7 +10,7 @@ use Rattle.packet.specs.declared.Frame.{Frame}
 abbrev pub byte : List ℕ → ℕ → ℕ
 byte b i = getD b i 0
 
--- the number that the two, four or eight bytes from byte i on spell
+-- the number in the two, four or eight bytes from byte i on
 abbrev pub num16At : List ℕ → ℕ → ℕ
 num16At b i = byte b i * 256 + byte b (i + 1)
 
@@ -24,9 +24,8 @@ num64At b i = num32At b i * 2 ^ 32 + num32At b (i + 4)
 abbrev pub dwordsAt : List ℕ → ℕ
 dwordsAt b = byte b 2 % 4 * 256 + byte b 3
 
--- Byte 1 has TC in bits 6:4; byte 2 has TD and EP in bits 7:6 and AT in bits 3:2; bytes 4 and 5 are the
--- sender's ID. What stands from byte 12 on is 0 in a packet that ends before byte 16, and the body in
--- one that ends before byte 24.
+-- Byte 1 has TC in bits 6:4; byte 2 has TD and EP in bits 7:6 and AT in bits 3:2; bytes 4 and 5 are the sender's ID.
+-- Bytes 12 to 15 count as 0 in a packet of fewer than 16 bytes, and the body in one of fewer than 24.
 unfoldable pub decodeFrame : List ℕ → Frame
 decodeFrame b =
     record {
@@ -43,11 +42,11 @@ decodeFrame b =
       body = cond (ltb (length b) 24) 0 (num64At b 16);
     }
 
--- the four bytes that spell a DWORD
+-- a DWORD as four bytes
 abbrev pub fourBytes : ℕ → List ℕ
 fourBytes n = (n / 16777216 % 256) ∷ (n / 65536 % 256) ∷ (n / 256 % 256) ∷ (n % 256) ∷ []
 
--- the 24 bytes that spell a frame; TD, EP and every unnamed bit are zero
+-- a frame as 24 bytes; TD, EP and every unnamed bit are zero
 abbrev pub encodeFrame : Frame → List ℕ
 encodeFrame f =
     f .byte0

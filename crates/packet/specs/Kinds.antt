@@ -1,4 +1,4 @@
--- The rest of the table of kinds: the fields of each kind in a frame, the frame of a packet, what is forbidden, and what its bits hold. 01, "The seven packets", "Forbidden values".
+-- The rest of the table of kinds: the fields of each kind in a frame, the frame of a packet, forbidden values, and field widths. 01, "The seven packets", "Forbidden values".
 use Prim.Native.Nat.{ℕ, _+_, _*_, _/_, _%_, _^_}
 use mathlib.Core.Bool.{Bool, true, cond, not, _&&_}
 use lib.Dec.{ltb, leb, eqb}
@@ -20,11 +20,11 @@ use Rattle.packet.specs.Forms.{byte0Of, dwordCount, byteEnables}
 abbrev pub headIn : Frame → Head
 headIn f = record { tc = f .tc; sender = f .sender }
 
--- the address of the 64-bit forms, and what a Page Request has in its place
+-- the address of the 64-bit forms, and the QWORD that a Page Request has there
 abbrev pub address64In : Frame → ℕ
 address64In f = f .dword8 * 2 ^ 32 + f .dword12
 
--- TR: byte 6 is the Tag; of the address as it stands, a, bits 11:0 are no part, and bit 0 is No Write
+-- TR: byte 6 is the Tag; bits 11:0 of the address field a are not part of the address, and bit 0 is No Write
 abbrev pub trIn : Frame → ℕ → Body
 trIn f a =
     Tr (record { tag = record { 0 = f .byte6 }; dwords = f .dwords; address = a / 4096 * 4096; nowrite = eqb (a % 2) 1 })
@@ -33,7 +33,7 @@ trIn f a =
 abbrev pub memIn : Frame → Access → ℕ → Body
 memIn f access a = Mem (record { access = access; dwords = f .dwords; address = a / 4 * 4; translated = eqb (f .at) 2 })
 
--- 00h and 20h are a TR with AT 01, else a MEM read, whose byte 6 is the Tag
+-- 00h and 20h are a TR if AT is 01, otherwise a MEM read, whose byte 6 is the Tag
 abbrev pub readRequestIn : Frame → ℕ → Body
 readRequestIn f a = cond (eqb (f .at) 1) (trIn f a) (memIn f (Read (record { 0 = f .byte6 })) a)
 
@@ -68,8 +68,7 @@ invIn f =
 abbrev pub icIn : Frame → Body
 icIn f = Ic (record { device = f .dword8 / 65536; cc = f .dword8 % 8; vector = f .dword12 })
 
--- PRQ: a, the number in bytes 8 to 15, has the page address with the PRG index, L, W and R in
--- its low 12 bits, in this order
+-- PRQ: a is the number in bytes 8 to 15. It has the page address, and in its low 12 bits the PRG index, L, W and R.
 abbrev pub prqIn : ℕ → Body
 prqIn a =
     Prq
@@ -106,20 +105,20 @@ bodyIn PrgResp f = prsIn f
 abbrev pub packetIn : Form → Frame → Packet
 packetIn m f = record { head = headIn f; body = bodyIn m f }
 
--- ---- forbidden values that no field of a packet could hold: they are seen in the frame alone
+-- ---- forbidden values that no field of a packet can hold, so that only the frame shows them
 
--- MEM: AT 00 or 10, and byte 7 as its Length asks
+-- MEM: AT is 00 or 10, and byte 7 is as its Length requires
 abbrev pub wellFormedMem : Frame → Bool
 wellFormedMem f = eqb (f .at % 2) 0 && eqb (f .byte7) (byteEnables (f .dwords))
 
 abbrev pub wellFormedReadRequest : Frame → Bool
 wellFormedReadRequest f = cond (eqb (f .at) 1) (eqb (f .byte7) 0xFF) (wellFormedMem f)
 
--- the 64-bit form has an upper half that is not zero
+-- in a 64-bit form the upper half of the address is not zero
 abbrev pub wellFormed64 : Frame → Bool → Bool
 wellFormed64 f rest = ltb 0 (f .dword8) && rest
 
--- status 000 with data; Length 2 in an INV
+-- CPL with data: status 000; INV: Length 2
 unfoldable pub wellFormed : Form → Frame → Bool
 wellFormed Mrd32 f = wellFormedReadRequest f
 wellFormed Mrd64 f = wellFormed64 f (wellFormedReadRequest f)
@@ -140,7 +139,7 @@ shortEnough w = leb (dwordCount w) 32
 abbrev pub evenAndShort : ℕ → Bool
 evenAndShort w = eqb (w % 2) 0 && shortEnough w
 
--- where S is set, an address of ones only has no size
+-- with S set, an address of all ones has no size
 abbrev pub codesSize : ℕ → Bool → Bool
 codesSize a s = cond s (not (eqb (a / 4096) 0xF_FFFF_FFFF_FFFF)) true
 
@@ -162,7 +161,7 @@ allowedBody tc (Prs s) = eqb tc 0
 abbrev pub allowed : Packet → Bool
 allowed p = allowedBody (p .head .tc) (p .body)
 
--- ---- a field outside its bits, low address bits that have no place among them
+-- ---- fields that do not fit their bits, and low address bits that have no field
 
 abbrev pub outcomeInRange : Outcome → Bool
 outcomeInRange (Data w) = ltb w 1024
@@ -199,9 +198,9 @@ payloadLength (Ic i) = 0
 payloadLength (Prq q) = 0
 payloadLength (Prs s) = 0
 
--- ---- the form and the frame of a packet; the remainders change nothing in a packet whose fields are within their bits
+-- ---- the form and the frame of a packet; the remainders change nothing if the fields fit their bits
 
--- a 64-bit form only where the address needs it
+-- the 64-bit form is used only if the address needs it
 abbrev pub needs64Bits : ℕ → Bool
 needs64Bits a = leb (2 ^ 32) a
 
@@ -226,7 +225,7 @@ formOf (Prs s) = PrgResp
 abbrev pub bitOf : Bool → ℕ
 bitOf b = cond b 1 0
 
--- bytes 8-11 and 12-15 where an address stands there
+-- bytes 8-11 and 12-15 of the kinds that have an address there
 abbrev pub addressDword8 : ℕ → ℕ
 addressDword8 a = cond (needs64Bits a) (a / 2 ^ 32) a
 

@@ -1,4 +1,4 @@
--- The bits that have a name, as one mask for each kind: read off the table. What a mask clears is ignored on reading and written zero. 01, "The seven packets".
+-- The named bits of each kind as a mask, from the table. Bits outside the mask are ignored on reading and written as zero. 01, "The seven packets".
 use Prim.Native.Nat.{ℕ}
 use mathlib.Core.Bool.{Bool, cond}
 use mathlib.Core.List.{List, [], _∷_, _++_}
@@ -11,8 +11,8 @@ use Rattle.packet.specs.declared.Form.the-variants.{Mrd32, Mrd64, Mwr32,
 use Rattle.packet.specs.Frames.{byte, decodeFrame}
 use Rattle.packet.specs.Forms.{choose}
 
--- TC in byte 1; TD and EP in byte 2, with AT and Length where the kind has them; bytes 0, 4, 5 and 7
--- whole; byte 6 as the kind has it
+-- TC in byte 1; TD and EP in byte 2, and AT and Length if the kind has them; all of bytes 0, 4, 5 and
+-- 7; byte 6 depends on the kind
 abbrev pub frontMask : ℕ → ℕ → ℕ → List ℕ
 frontMask byte2 byte3 byte6 = 0xFF ∷ 0x70 ∷ byte2 ∷ byte3 ∷ 0xFF ∷ 0xFF ∷ byte6 ∷ 0xFF ∷ []
 
@@ -41,11 +41,11 @@ memAddressMask = 0xFF ∷ 0xFF ∷ 0xFF ∷ 0xFC ∷ []
 abbrev pub completionMask : List ℕ
 completionMask = 0xFF ∷ 0xFF ∷ 0xFF ∷ 0x7F ∷ []
 
--- Device ID, and what the kind has in bytes 10 and 11
+-- Device ID, and the fields of the kind in bytes 10 and 11
 abbrev pub deviceMask : ℕ → ℕ → List ℕ
 deviceMask byte10 byte11 = 0xFF ∷ 0xFF ∷ byte10 ∷ byte11 ∷ []
 
--- four bytes with no name
+-- four unnamed bytes
 abbrev pub unnamedMask : List ℕ
 unnamedMask = 0x00 ∷ 0x00 ∷ 0x00 ∷ 0x00 ∷ []
 
@@ -53,7 +53,7 @@ unnamedMask = 0x00 ∷ 0x00 ∷ 0x00 ∷ 0x00 ∷ []
 abbrev pub sizeCodeMask : List ℕ
 sizeCodeMask = 0xFF ∷ 0xFF ∷ 0xF8 ∷ 0x00 ∷ []
 
--- tr says that AT is 01
+-- tr: AT is 01
 unfoldable pub maskOf : Form → Bool → List ℕ
 maskOf Mrd32 tr = addressedMask 0xFF ++ cond tr trAddressMask memAddressMask
 maskOf Mrd64 tr = addressedMask 0xFF ++ upperMask ++ cond tr trAddressMask memAddressMask
@@ -66,7 +66,7 @@ maskOf InvCpl tr = plainMask 0x00 ++ deviceMask 0x00 0x07 ++ upperMask
 maskOf PageReq tr = plainMask 0x00 ++ upperMask ++ upperMask
 maskOf PrgResp tr = plainMask 0x00 ++ deviceMask 0xF1 0xFF ++ unnamedMask
 
--- each byte under its mask; a payload is kept whole
+-- each byte ANDed with its mask; the payload is unchanged
 unfoldable pub masked : List ℕ → List ℕ → List ℕ
 masked [] xs = xs
 masked (m ∷ ms) [] = []
@@ -76,6 +76,6 @@ abbrev pub normalAs : Choice → Bool → List ℕ → List ℕ
 normalAs (Listed m) tr b = masked (maskOf m tr) b
 normalAs Unlisted tr b = b
 
--- a packet with its ignored bits zero
+-- a packet with its ignored bits cleared
 unfoldable pub normal : List ℕ → List ℕ
 normal b = normalAs (choose (byte b 0) (byte b 7)) (eqb (decodeFrame b .at) 1) b

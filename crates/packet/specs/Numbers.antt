@@ -23,15 +23,15 @@ numberOf PagesNotOn = 15
 numberOf NoCreditOrGroupWaits = 16
 numberOf BufferTooShort = 17
 
--- A call gives something, or is refused with a number.
+-- A call succeeds with a value, or is refused with a number.
 pub data Result (A : Type 0) : Type 0 where
   ok : A → Result A
   refusal : ℕ → Result A
 
--- refused with n where the test holds, else what comes next
+-- refused with n if the test holds, otherwise `next`
 abbrev pub refuse : {A : Type 0} → ℕ → Bool → Result A → Result A
 refuse n t next = cond t (refusal n) next
 
--- what comes next where the test holds, else refused with n
+-- `next` if the test holds, otherwise refused with n
 abbrev pub check : {A : Type 0} → ℕ → Bool → Result A → Result A
 check n t next = cond t next (refusal n)

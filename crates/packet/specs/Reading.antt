@@ -16,7 +16,7 @@ use Rattle.packet.specs.Frames.{byte, num64At, decodeFrame}
 use Rattle.packet.specs.Forms.{choose, packetLength, payloadOffset}
 use Rattle.packet.specs.Kinds.{packetIn, wellFormed, allowed}
 
--- the result that an answer stands for
+-- the result of an answer of the code
 abbrev pub readResult : Reading → Result Packet
 readResult (Read p) = ok p
 readResult (Refused r) = refusal (numberOf r)
@@ -43,7 +43,7 @@ reading b =
     (refuse 1 (ltb 144 (length b))
     (readFrame (decodeFrame b) (length b)))
 
--- the payload of a packet that is read: what follows the bytes that hold fields
+-- the payload of a packet: what follows the bytes that hold fields
 abbrev pub payloadAs : Choice → List ℕ → List ℕ
 payloadAs (Listed m) b = drop (payloadOffset m) b
 payloadAs Unlisted b = []
@@ -51,6 +51,6 @@ payloadAs Unlisted b = []
 unfoldable pub payloadIn : List ℕ → List ℕ
 payloadIn b = cond (ltb (length b) 12) [] (payloadAs (choose (byte b 0) (byte b 7)) b)
 
--- QWORD k of a payload; 0 past the last whole one
+-- QWORD k of a payload, or 0 past the last whole one
 unfoldable pub qwordAt : List ℕ → ℕ → ℕ
 qwordAt b k = cond (ltb k (length b / 8)) (num64At b (8 * k)) 0

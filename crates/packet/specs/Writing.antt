@@ -11,7 +11,7 @@ use Rattle.packet.specs.Frames.{encodeFrame}
 use Rattle.packet.specs.Forms.{payloadOffset}
 use Rattle.packet.specs.Kinds.{fieldsInRange, allowed, payloadLength, formOf, packetFrame}
 
--- the result that an answer stands for
+-- the result of an answer of the code
 abbrev pub writeResult : Writing → Result ℕ
 writeResult (Written n) = ok n
 writeResult (Refused r) = refusal (numberOf r)
@@ -20,11 +20,11 @@ writeResult (Refused r) = refusal (numberOf r)
 unfoldable pub bytesOf : Packet → List ℕ → List ℕ
 bytesOf p payload = take (payloadOffset (formOf (p .body))) (encodeFrame (packetFrame (p .head) (p .body))) ++ payload
 
--- n bytes where there is room for them
+-- n if there is room for n bytes, otherwise refused with 17
 abbrev pub checkRoom : ℕ → ℕ → Result ℕ
 checkRoom n room = refuse 17 (ltb room n) (ok n)
 
--- load is the payload's length, room the buffer's
+-- load is the length of the payload, room that of the buffer
 unfoldable pub writing : Packet → ℕ → ℕ → Result ℕ
 writing p load room =
     check 12 (fieldsInRange p)
@@ -32,7 +32,7 @@ writing p load room =
     (check 4 (allowed p)
     (checkRoom (payloadOffset (formOf (p .body)) + load) room)))
 
--- the buffer afterwards: the packet at its start and the rest as it was, or all of it as it was
+-- the buffer afterwards: the packet at its start and the rest unchanged, or all of it unchanged
 abbrev pub bufferAfter : Result ℕ → List ℕ → List ℕ → List ℕ
 bufferAfter (ok n) bytes out = bytes ++ drop (length bytes) out
 bufferAfter (refusal k) bytes out = out

@@ -1,18 +1,18 @@
-// What a packet is: the three numbers that name things, the seventeen refusals, the seven kinds,
-// and the header taken apart. The definitions in specs/ say how bytes and packets go together.
+// Packets: Tag, ITag and PRG index, the seventeen refusals, the seven kinds, and the decoded
+// header. The definitions in specs/ relate bytes and packets.
 ghost use mathlib.Core.Path.{_≡_};
 ghost use Prim.Native.Nat.{_≤_};
 ghost use Rattle.packet.specs.Numbers.{numberOf};
 ghost use Rattle.packet.specs.Forms.{dwordCount, byteEnables, payloadOffset};
 ghost use Rattle.packet.specs.Kinds.{shortEnough, evenAndShort, codesSize, allowedOutcome, allowedBody};
 
-// The number of an open request.
+// The Tag of an outstanding request.
 pub struct Tag(pub u8);
 
-// The number of an Invalidate Request.
+// The ITag of an Invalidate Request.
 pub struct ITag(pub u8);
 
-// The number of a page request group.
+// The index of a page request group.
 pub struct PrgIndex(pub u16);
 
 // The seventeen refusals, in the order of their numbers.
@@ -36,13 +36,13 @@ pub enum Refusal {
     BufferTooShort,
 }
 
-// What every kind has: Traffic Class and sender's ID.
+// The fields that every kind has: Traffic Class and the sender's ID.
 pub struct Head {
     pub tc: u8,
     pub sender: u16,
 }
 
-// Here and below `dwords` is Length as its field has it: a count of DWORDs, in which 0 means 1024.
+// Here and below, `dwords` is the Length field: a count of DWORDs, where 0 means 1024.
 pub struct TranslationRequest {
     pub tag: Tag,
     pub dwords: u16,
@@ -56,7 +56,7 @@ pub enum Access {
     Write,
 }
 
-// Translated is AT 10, else AT 00.
+// `translated` is AT 10; otherwise AT is 00.
 pub struct MemoryRequest {
     pub access: Access,
     pub dwords: u16,
@@ -64,7 +64,7 @@ pub struct MemoryRequest {
     pub translated: bool,
 }
 
-// Data, with Length as its field has it and status 000; or a status and no data.
+// Data with this Length and status 000, or a status and no data.
 pub enum Outcome {
     Data(u16),
     Status(u8),
@@ -78,7 +78,7 @@ pub struct Completion {
     pub lower: u8,
 }
 
-// Address and S as the body has them: together they are the size code.
+// Address and S as they are in the body. Together they encode the size.
 pub struct InvalidateRequest {
     pub itag: ITag,
     pub device: u16,
@@ -122,7 +122,7 @@ pub struct Packet {
     pub body: Body,
 }
 
-// What byte 0, and for a message byte 7, choose among.
+// The packet forms. Byte 0 selects one; for a message byte 7 does.
 pub enum Form {
     Mrd32,
     Mrd64,
@@ -141,8 +141,8 @@ pub enum Choice {
     Unlisted,
 }
 
-// A header taken apart, with the body of an Invalidate Request: each field as it stands in the
-// bytes, named by its place where no one name fits all kinds. `marks` is TD and EP.
+// A decoded header, with the body of an Invalidate Request. Fields have the values of the bytes. A
+// field whose meaning depends on the kind is named by its position. `marks` is TD and EP.
 pub struct Frame {
     pub byte0: u8,
     pub tc: u8,
@@ -157,13 +157,13 @@ pub struct Frame {
     pub body: u64,
 }
 
-// What reading answers.
+// The result of reading: a packet, or a refusal.
 pub enum Reading {
     Read(Packet),
     Refused(Refusal),
 }
 
-// What writing answers: the packet's length, or a refusal.
+// The result of writing: the packet's length, or a refusal.
 pub enum Writing {
     Written(usize),
     Refused(Refusal),
@@ -194,21 +194,21 @@ pub fn number(r: Refusal) -> u8
     }
 }
 
-// The DWORDs that a Length stands for.
+// The number of DWORDs that a Length field stands for.
 pub fn dword_count(dwords: u16) -> usize
     ensures { λ r. ⌜ (r ≡ dwordCount dwords) × (r ≤ 65535) ⌝ }
 {
     if dwords == 0 { 1024 } else { dwords as usize }
 }
 
-// Byte 7 of a MEM packet of this Length: its byte enables.
+// The byte enables (byte 7) of a MEM packet of this Length.
 pub fn byte_enables(dwords: u16) -> u8
     ensures { λ r. ⌜ r ≡ byteEnables dwords ⌝ }
 {
     if dwords == 1 { 0x0F } else { 0xFF }
 }
 
-// The bytes before the payload.
+// The number of bytes before the payload.
 pub fn payload_offset(m: Form) -> usize
     ensures { λ r. ⌜ (r ≡ payloadOffset m) × (r ≤ 24) ⌝ }
 {
@@ -226,7 +226,7 @@ pub fn payload_offset(m: Form) -> usize
     }
 }
 
-// Length 32 is the most that a packet here may have.
+// Is Length at most 32?
 fn is_short(dwords: u16) -> bool
     ensures { λ r. ⌜ r ≡ shortEnough dwords ⌝ }
 {
@@ -262,7 +262,7 @@ fn is_even_and_short(dwords: u16) -> bool
     }
 }
 
-// No field has a forbidden value.
+// Does no field have a forbidden value?
 pub fn is_allowed(tc: u8, body: Body) -> bool
     ensures { λ r. ⌜ r ≡ allowedBody tc body ⌝ }
 {

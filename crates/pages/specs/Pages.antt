@@ -29,7 +29,7 @@ stopped = record { interface = Stopped; allocation = 0; groups = closedAll }
 abbrev pub isIndex : PrgIndex → Bool
 isIndex k = ltb (k .0) 32
 
--- the group with an index; past the last there is none, and none waits
+-- the group with this index; past the last, a group that does not wait
 abbrev pub groupAt : List Group → PrgIndex → Group
 groupAt groups k = getD groups (k .0) idle
 
@@ -46,7 +46,7 @@ usedCredits groups = foldMap _+_ requestsOf groups
 unfoldable pub isSpent : List Group → ℕ → Bool
 isSpent groups allocation = leb allocation (usedCredits groups)
 
--- a request more; after the last of a group the group waits
+-- one more request; after its last request the group waits
 abbrev pub oneMoreRequest : Group → Bool → Group
 oneMoreRequest g last = record { waits = last; requests = (g .requests + 1) % 2 ^ 16 }
 

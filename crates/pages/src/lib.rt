@@ -10,13 +10,14 @@ pub enum Interface {
     Stopped,
 }
 
-// The page requests of a group that have no response, and whether the last of them was sent.
+// A group: how many of its page requests are outstanding, and whether the last one was sent, so
+// that it waits for its response.
 pub struct Group {
     pub waits: bool,
     pub requests: u16,
 }
 
-// Every request of an open group has a credit of the allocation.
+// Each outstanding request uses one credit of the allocation.
 pub struct Pages {
     pub interface: Interface,
     pub allocation: u16,
@@ -32,6 +33,7 @@ fn no_requests() -> Group
     }
 }
 
+// The interface switched off.
 pub fn off() -> Pages
     ensures { λ r. ⌜ r ≡ switchedOff ⌝ }
 {
@@ -43,6 +45,7 @@ pub fn off() -> Pages
     }
 }
 
+// The interface switched on with an allocation of credits.
 pub fn on(allocation: u16) -> Pages
     ensures { λ r. ⌜ r ≡ switchedOn allocation ⌝ }
 {
@@ -54,6 +57,7 @@ pub fn on(allocation: u16) -> Pages
     }
 }
 
+// The interface stopped by a Response Failure.
 pub fn stop() -> Pages
     ensures { λ r. ⌜ r ≡ stopped ⌝ }
 {
@@ -65,13 +69,14 @@ pub fn stop() -> Pages
     }
 }
 
+// Is this PRG index below 32?
 pub fn is_index(k: PrgIndex) -> bool
     ensures { λ r. ⌜ r ≡ isIndex k ⌝ }
 {
     k.0 < 32
 }
 
-// Has the last request of a group been sent, and no response come?
+// Has a group sent its last request and had no response?
 pub fn is_waiting(groups: [Group; 32], k: PrgIndex) -> bool
     ensures { λ r. ⌜ r ≡ isWaiting groups k ⌝ }
 {
@@ -85,7 +90,7 @@ fn requests_of(g: Group) -> u32
     g.requests as u32
 }
 
-// The credits in use.
+// The number of credits in use.
 fn used_credits(groups: [Group; 32]) -> u32
     ensures { λ r. ⌜ r ≡ usedCredits groups ⌝ }
 {
@@ -106,7 +111,7 @@ pub fn is_spent(groups: [Group; 32], allocation: u16) -> bool
     allocation as u32 <= used_credits(groups)
 }
 
-// One request more in a group.
+// Adds a request to a group.
 pub fn add_request(mut groups: [Group; 32], k: PrgIndex, last: bool) -> [Group; 32]
     ensures { λ r. ⌜ r ≡ requestAdded groups k last ⌝ }
 {
@@ -121,7 +126,7 @@ pub fn add_request(mut groups: [Group; 32], k: PrgIndex, last: bool) -> [Group; 
     groups
 }
 
-// A group is answered: it is closed and its credits are free.
+// Closes a group, which frees its credits.
 pub fn close(mut groups: [Group; 32], k: PrgIndex) -> [Group; 32]
     ensures { λ r. ⌜ r ≡ closed groups k ⌝ }
 {
@@ -132,6 +137,7 @@ pub fn close(mut groups: [Group; 32], k: PrgIndex) -> [Group; 32]
     groups
 }
 
+// The interface with other groups.
 pub fn with_groups(mut p: Pages, groups: [Group; 32]) -> Pages
     ensures { λ r. ⌜ r ≡ withGroups p groups ⌝ }
 {

@@ -1,4 +1,4 @@
--- What the definitions mean.
+-- Laws of sizes and ranges.
 use mathlib.Core.Path.{_≡_, refl, sym, ap, _∙_}
 use mathlib.Core.Bool.{Bool, true, false, cond}
 use Prim.Native.Nat.{ℕ, zero, suc, _+_, _-_, _*_, _/_, _%_, _^_, _<_, _≤_, max}
@@ -15,7 +15,7 @@ use Rattle.ranges.specs.declared.Size.the-variants.{Exponent, NoSize}
 use Rattle.ranges.specs.Size.{bit, lowestZero, sizeOf, baseOf}
 use Rattle.ranges.specs.Range.{regionIn, regionOf, roundedOf, overlaps}
 
--- A search that stands at bit b: all below it are ones.
+-- The search for the lowest zero bit, at bit b: it stops, goes on, or ends.
 pub zero-here : (b x : ℕ) → b < 64 → bit x b ≡ false → lowestZero (64 - b) b x ≡ b
 unfolding lowestZero
 zero-here b x h e = let s : 64 - b ≡ suc (64 - (b + 1)) = omega arith in rw (s, e)
@@ -30,12 +30,12 @@ zero-end b x h = let s : 64 - b ≡ 0 = omega arith in rw s
 
 -- ---- sizes
 
--- how many ones a number ends in, k at most
+-- the number of trailing ones, at most k
 unfoldable pub trailing : ℕ → ℕ → ℕ
 trailing zero y = 0
 trailing (suc k) y = cond (eqb (y % 2) 1) (suc (trailing k (y / 2))) 0
 
--- the lowest zero bit from bit b on lies past the ones that the number shifted by b ends in
+-- the lowest zero bit from bit b on follows the trailing ones of the number shifted by b
 pub lowest-trailing : (k b x : ℕ) → lowestZero k b x ≡ b + trailing k (x / 2 ^ b)
 unfolding lowestZero trailing
 lowest-trailing zero b x = sym (add-zero b)
@@ -47,7 +47,7 @@ lowest-trailing (suc k) b x =
 halves : (a b : ℕ) → 0 < b → ((a * 2 + (b * 2 - 1)) % 2 ≡ 1) × ((a * 2 + (b * 2 - 1)) / 2 ≡ a + (b - 1))
 halves a b h = omega arith
 
--- the bits below the address say nothing of the size
+-- the bits below 4096 do not affect the size
 pub size-of-page : (a : ℕ) (s : Bool) → sizeOf (a / 4096 * 4096) s ≡ sizeOf a s
 unfolding sizeOf
 size-of-page a s =
@@ -73,7 +73,7 @@ trailing-le zero y = omega arith
 trailing-le (suc k) y =
     byCases (eqb (y % 2) 1) (λ p. rw p (omega (arith, trailing-le k (y / 2)))) (λ p. rw p (omega arith))
 
--- a number ends in k ones where its lowest k bits are ones
+-- if a number has k trailing ones, its lowest k bits are ones
 pub all-ones : (k y : ℕ) → trailing k y ≡ k → y % 2 ^ k ≡ 2 ^ k - 1
 unfolding trailing
 all-ones zero y e = omega arith
@@ -91,11 +91,11 @@ all-ones (suc k) y e =
     go : y % 2 ≡ 1 → y / 2 % 2 ^ k ≡ 2 ^ k - 1 → y % 2 ^ suc k ≡ 2 ^ suc k - 1
     go o r = rw (← add-one k, mod-pow-add y k 1, r, o, pow-add 2 k 1) (omega (arith, pow-pos k))
 
--- the address that codes a base of 2 ^ e bytes, under S
+-- the address that encodes a base and a size of 2 ^ e bytes, with S set
 abbrev pub coded : ℕ → ℕ → ℕ
 coded base e = base + (2 ^ (e - 1) - 4096)
 
--- shifted by 12, it ends in e - 13 ones below a zero
+-- shifted by 12, it has e - 13 trailing ones
 coded-shape : (n q : ℕ) → coded (q * 2 ^ (n + 13)) (n + 13) ≡ (q * 2 ^ suc n + (2 ^ n - 1)) * 4096
 coded-shape n q =
     let a : n + 13 - 1 ≡ n + 12 = omega arith in
@@ -105,7 +105,7 @@ coded-shape n q =
     same : (n : ℕ) → n + 13 ≡ n + 1 + 12
     same n = omega arith
 
--- every size from 8192 bytes to 2 ^ 64 is coded and decoded alike
+-- every size from 8192 bytes to 2 ^ 64 is decoded as it was encoded
 pub coded-size : (n q : ℕ) → n < 52 → sizeOf (coded (q * 2 ^ (n + 13)) (n + 13)) true ≡ Exponent (n + 13)
 unfolding sizeOf
 coded-size n q h =
@@ -125,7 +125,7 @@ coded-base n q h =
     let small : 2 ^ (e - 1) - 4096 < 2 ^ e = omega (arith, pow-mono {i = e - 1} {j = e} (omega arith), pow-pos e) in
     rw (min-eq-left {n = e} {m = 64} (omega arith), high q e small)
 
--- a size is 4096 bytes at least and 2 ^ 64 at most
+-- a size is at least 4096 bytes and at most 2 ^ 64
 pub size-between : (a : ℕ) (s : Bool) (e : ℕ) → sizeOf a s ≡ Exponent e → (12 ≤ e) × (e ≤ 64)
 unfolding sizeOf
 size-between a false e p = let q : 12 ≡ e = cc in omega arith
@@ -137,7 +137,7 @@ size-between a true e p = byCases (ltb (lowestZero 52 12 a) 64) (λ t. some t (r
     none : NoSize ≡ Exponent e → (12 ≤ e) × (e ≤ 64)
     none q = impossible cc
 
--- there is none only under S with bits 63:12 all ones
+-- there is no size only if S is set and bits 63:12 are all ones
 pub no-size : (a : ℕ) (s : Bool) → a < 2 ^ 64 → sizeOf a s ≡ NoSize → (s ≡ true) × (a / 4096 ≡ 0xF_FFFF_FFFF_FFFF)
 unfolding sizeOf
 no-size a false h p = impossible cc
@@ -154,7 +154,7 @@ no-size a true h p = (refl, byCases (ltb (lowestZero 52 12 a) 64) (λ t. some (r
 -- ---- rounding up to the unit, 2 ^ u bytes
 
 module _ (a e u : ℕ) (he : e ≤ 64) (hu : u ≤ 64) where
-  -- the larger exponent is at most 64, so nothing is cut off
+  -- the larger exponent is at most 64, so the minimum with 64 changes nothing
   rounded-is : roundedOf a e u ≡ regionIn a (max e u)
   unfolding roundedOf regionOf
   rounded-is = ap (regionIn a) (min-eq-left (larger (decLe e u)))
@@ -163,7 +163,7 @@ module _ (a e u : ℕ) (he : e ≤ 64) (hu : u ≤ 64) where
       larger (yes l) = rw (max-eq-right l) hu
       larger (no n) = rw (max-eq-left {n = e} {m = u} (omega arith)) he
 
--- a region of a larger exponent holds that of a smaller one
+-- the region of a larger exponent contains that of a smaller one
 pub region-holds : (a e f : ℕ) → e ≤ f
     → (a / 2 ^ f * 2 ^ f ≤ a / 2 ^ e * 2 ^ e) × (a / 2 ^ e * 2 ^ e + (2 ^ e - 1) ≤ a / 2 ^ f * 2 ^ f + (2 ^ f - 1))
 region-holds a e f h =
@@ -179,7 +179,7 @@ region-holds a e f h =
     let across : (z + 2 ^ d) * 2 ^ e ≡ z * 2 ^ e + 2 ^ d * 2 ^ e = add-mul z (2 ^ d) (2 ^ e) in
     rw (first, size) (low, omega (arith, pow-pos e))
 
--- a region begins and ends at every smaller power of two; y is its number
+-- a region is aligned to every smaller power of two; y is its number
 aligned : (y f u : ℕ) → u ≤ f → (y * 2 ^ f % 2 ^ u ≡ 0) × ((y * 2 ^ f + (2 ^ f - 1) + 1) % 2 ^ u ≡ 0)
 aligned y f u h =
     let d = f - u in
@@ -189,7 +189,7 @@ aligned y f u h =
     let last : y * 2 ^ f + 2 ^ f ≡ (y * 2 ^ d + 2 ^ d) * 2 ^ u = rw (first, size) (sym (add-mul (y * 2 ^ d) (2 ^ d) (2 ^ u))) in
     (rw first (mul-mod-left (y * 2 ^ d) (2 ^ u)), rw (one, last) (mul-mod-left (y * 2 ^ d + 2 ^ d) (2 ^ u)))
 
--- what begins and ends at a unit and holds a region holds the whole units that the region touches
+-- a range of whole units that contains a region contains every unit that overlaps the region
 smallest : (a e u i j : ℕ) → i * 2 ^ u ≤ a / 2 ^ e * 2 ^ e → a / 2 ^ e * 2 ^ e + (2 ^ e - 1) < j * 2 ^ u
     → (i * 2 ^ u ≤ a / 2 ^ u * 2 ^ u) × (a / 2 ^ u * 2 ^ u + (2 ^ u - 1) < j * 2 ^ u)
 smallest a e u i j l r =
@@ -202,15 +202,15 @@ smallest a e u i j l r =
     (mul-le-mul-right (2 ^ u) low, omega (arith, suc-mul x (2 ^ u), pow-pos u))
 
 module _ (a e u : ℕ) (he : e ≤ 64) (hu : u ≤ 64) where
-  -- the rounded range holds the region,
+  -- the rounded range contains the region,
   pub rounded-holds : (roundedOf a e u .first ≤ regionIn a e .first) × (regionIn a e .last ≤ roundedOf a e u .last)
   rounded-holds = rw (rounded-is a e u he hu) (region-holds a e (max e u) (le-max-left e u))
 
-  -- begins and ends at a unit,
+  -- is aligned to the unit,
   pub rounded-aligned : (roundedOf a e u .first % 2 ^ u ≡ 0) × ((roundedOf a e u .last + 1) % 2 ^ u ≡ 0)
   rounded-aligned = rw (rounded-is a e u he hu) (aligned (a / 2 ^ max e u) (max e u) u (le-max-right e u))
 
-  -- and is the smallest such
+  -- and is the smallest such range
   pub rounded-smallest : (i j : ℕ) → i * 2 ^ u ≤ regionIn a e .first → regionIn a e .last < j * 2 ^ u
       → (i * 2 ^ u ≤ roundedOf a e u .first) × (roundedOf a e u .last < j * 2 ^ u)
   rounded-smallest i j l r = rw (rounded-is a e u he hu) (go (decLe e u))
@@ -219,7 +219,7 @@ module _ (a e u : ℕ) (he : e ≤ 64) (hu : u ≤ 64) where
       go (yes h) = rw (max-eq-right h) (smallest a e u i j l r)
       go (no n) = rw (max-eq-left {n = e} {m = u} (omega arith)) (l, r)
 
--- ---- two ranges overlap exactly where they have a byte in common
+-- ---- two ranges overlap if and only if they have a byte in common
 
 pub shared-overlaps : (p q : Range) (x : ℕ) → p .first ≤ x → x ≤ p .last → q .first ≤ x → x ≤ q .last
     → overlaps p q ≡ true

@@ -1,4 +1,4 @@
--- Laws of runs of units and of places moved from region to region.
+-- Laws of ranges of units, and of addresses moved between regions.
 use mathlib.Core.Path.{_≡_, refl, sym, ap, _∙_}
 use mathlib.Core.Bool.{true, _&&_}
 use Prim.Native.Nat.{ℕ, _+_, _-_, _*_, _/_, _%_, _^_, _<_, _≤_, min}
@@ -11,12 +11,12 @@ use Rattle.lemmas.proofs.Powers.{region-lt}
 use Rattle.lemmas.proofs.Tests.{same-leb}
 use Rattle.ranges.specs.Range.{regionOf, rangeFrom, unitsFrom, unitExponent, unitBytes, unitCount, relocated, isWithin}
 
--- the region that holds a byte begins no later,
+-- the region of an address begins no later than the address,
 pub region-first : (a e : ℕ) → regionOf a e .first ≤ a
 unfolding regionOf
 region-first a e = div-mul-le-self a (2 ^ min e 64)
 
--- and what an address is past that beginning leaves every other region inside the address space
+-- a relocated address stays in the address space,
 pub relocated-lt : (base a e : ℕ) → base < 2 ^ 64 → relocated base a e < 2 ^ 64
 unfolding relocated regionOf
 relocated-lt base a e h =
@@ -31,12 +31,12 @@ offset-low m x a k h =
     let first : x * 2 ^ m ≡ x * 2 ^ j * 2 ^ k = ap (λ (n : ℕ). x * 2 ^ n) (sym same) ∙ rw (pow-add 2 j k) (sym (mul-assoc x (2 ^ j) (2 ^ k))) in
     rw (rest, first, mul-add-mod-self-right (x * 2 ^ j) (2 ^ k) (a % 2 ^ m), ← same) (mod-mod-pow a j k)
 
--- and it keeps the bits of the address below any size that the region has
+-- and keeps the low bits of the address, up to the size of the region
 pub relocated-low : (base a e k : ℕ) → k ≤ e → k ≤ 64 → relocated base a e % 2 ^ k ≡ a % 2 ^ k
 unfolding relocated regionOf
 relocated-low base a e k h g = offset-low (min e 64) (base / 2 ^ min e 64) a k (le-min h g)
 
--- the units of a request are few
+-- the units of a request do not overflow 64 bits
 pub units-fit : (further unit : ℕ) → unit ≤ 0x800_0000_0000
     → (unitCount further * unit ≤ 0x8000_0000_0000) × (unit ≤ unitCount further * unit)
 units-fit further unit h =
@@ -44,29 +44,29 @@ units-fit further unit h =
     let one : 1 ≤ unitCount further = omega arith in
     (omega (arith, mul-le-mul-right unit few), omega (arith, mul-le-mul-right unit one))
 
--- a reach ends no sooner than it begins, and inside the address space
+-- a range ends no sooner than it begins, and inside the address space
 pub rangeFrom-ends : (first rest : ℕ) → first < 2 ^ 64
     → (first ≤ rangeFrom first rest .last) × (rangeFrom first rest .last < 2 ^ 64)
 unfolding rangeFrom
 rangeFrom-ends first rest h =
     (le-min (omega arith) (omega arith), omega (arith, min-le-right (first + rest) (2 ^ 64 - 1)))
 
--- region n begins at or before a byte exactly where it is no later than the byte's own region
+-- region n begins at or before a byte if and only if it is not after the byte's own region
 pub region-leb : (n e x : ℕ) → leb (n * 2 ^ e) x ≡ leb n (x / 2 ^ e)
 region-leb n e x =
     let iff = le-div-iff-mul-le {k = 2 ^ e} {x = n} {y = x} (pow-pos e) in
     same-leb (n * 2 ^ e) x n (x / 2 ^ e) (λ l. iff .1 l) (λ l. iff .0 l)
 
--- a later byte lies in no earlier region
+-- a later byte is not in an earlier region
 pub region-monotone : (a b e : ℕ) → a ≤ b → a / 2 ^ e ≤ b / 2 ^ e
 region-monotone a b e h =
     le-div-iff-mul-le {k = 2 ^ e} {x = a / 2 ^ e} {y = b} (pow-pos e) .1 (le-trans (div-mul-le-self a (2 ^ e)) h)
 
--- where the units of a request lie: none is far from the first
+-- the offset of a unit of a request fits 64 bits
 pub offset-fits : (j unit : ℕ) → j ≤ 15 → unit ≤ 0x800_0000_0000 → j * unit ≤ 0x8000_0000_0000
 offset-fits j unit h k = omega (arith, mul-le-mul-right unit h)
 
--- a 16-bit number of units fits, and is no less than a byte where there is a unit
+-- a 16-bit number of units fits 64 bits, and one unit or more is at least one byte
 pub many-fit : (n unit : ℕ) → n < 2 ^ 16 → unit ≤ 0x800_0000_0000 → n * unit < 2 ^ 64
 many-fit n unit h k =
     let few : n ≤ 65535 = omega arith in
@@ -79,14 +79,14 @@ some-bytes n unit h k = omega (arith, mul-le-mul-right unit h)
 pub region-lt-top : (a e : ℕ) → a < 2 ^ 64 → regionOf a e .first < 2 ^ 64
 region-lt-top a e h = omega (arith, region-first a e)
 
--- ---- the units of a run
+-- ---- the units of a range
 
--- a run begins with the unit of its address,
+-- the range begins with the unit of its address,
 pub unitsFrom-first : (a further stu : ℕ) → unitsFrom a further stu .first ≡ regionOf a (unitExponent stu) .first
 unfolding unitsFrom rangeFrom
 unitsFrom-first a further stu = refl
 
--- for which the bits of the address below 4096 do not count
+-- does not depend on the address bits below 4096,
 pub unitsFrom-low-bits : (a further stu : ℕ) → unitsFrom (a / 4096 * 4096) further stu ≡ unitsFrom a further stu
 unfolding unitsFrom regionOf
 unitsFrom-low-bits a further stu = rw (min-eq-left {n = 12 + stu % 32} {m = 64} (omega arith), ← shr-shr (a / 4096 * 4096) 12 (stu % 32), shl-shr (a / 4096) 12, shr-shr a 12 (stu % 32))
@@ -94,7 +94,7 @@ unitsFrom-low-bits a further stu = rw (min-eq-left {n = 12 + stu % 32} {m = 64} 
 step-le : (j n U : ℕ) → j < n → j * U + U ≤ n * U
 step-le j n U h = let most : (j + 1) * U ≤ n * U = mul-le-mul-right {m = j + 1} {n = n} U (omega arith) in rw (add-mul j 1 U, one-mul U) at most
 
--- and each of its units that begins in it lies in it
+-- and contains each of its units that begins in it
 pub unitsFrom-holds : (a further stu j : ℕ) → j < unitCount further
     → regionOf a (unitExponent stu) .first + j * unitBytes stu ≤ unitsFrom a further stu .last
     → isWithin (regionOf (regionOf a (unitExponent stu) .first + j * unitBytes stu) (unitExponent stu)) (unitsFrom a further stu) ≡ true

@@ -4,37 +4,37 @@ use mathlib.Core.Bool.{Bool, _&&_}
 use lib.Dec.{leb}
 use Rattle.ranges.specs.declared.Range.{Range}
 
--- the region of 2 ^ e bytes that holds a; 2 ^ 64 is the most there is
+-- the aligned region of 2 ^ e bytes that holds the address a, with e at most 64
 abbrev pub regionIn : ℕ → ℕ → Range
 regionIn a e = record { first = a / 2 ^ e * 2 ^ e; last = a / 2 ^ e * 2 ^ e + (2 ^ e - 1) }
 
 unfoldable pub regionOf : ℕ → ℕ → Range
 regionOf a e = regionIn a (min e 64)
 
--- the unit of an STU is 4096 × 2 ^ STU bytes; here its exponent, whatever a byte that should hold an STU holds
+-- the exponent of the unit, which is 4096 × 2 ^ STU bytes; an STU above 31 counts modulo 32
 abbrev pub unitExponent : ℕ → ℕ
 unitExponent stu = 12 + stu % 32
 
 abbrev pub unitBytes : ℕ → ℕ
 unitBytes stu = 2 ^ unitExponent stu
 
--- the region, or the whole unit around it where the unit is larger
+-- the region, or the unit that holds it if the unit is larger
 unfoldable pub roundedOf : ℕ → ℕ → ℕ → Range
 roundedOf a e u = regionOf a (max e u)
 
--- a byte and the rest that follow it, as far as addresses go
+-- a range of rest + 1 bytes, cut off at the top of the address space
 unfoldable pub rangeFrom : ℕ → ℕ → Range
 rangeFrom first rest = record { first = first; last = min (first + rest) (2 ^ 64 - 1) }
 
--- how many units a Translation Request is for: one, and the further ones after it, 15 at most
+-- the number of units of a Translation Request: one, and at most 15 further ones
 abbrev pub unitCount : ℕ → ℕ
 unitCount further = 1 + further % 16
 
--- the range of a Translation Request: its units from the one that holds the address
+-- the range of a Translation Request: its units, beginning with the one that holds the address
 unfoldable pub unitsFrom : ℕ → ℕ → ℕ → Range
 unitsFrom a further stu = rangeFrom (regionOf a (unitExponent stu) .first) (unitCount further * unitBytes stu - 1)
 
--- the place in the region of base that a has in its own
+-- the address a moved into the region of base: its offset in the region stays the same
 unfoldable pub relocated : ℕ → ℕ → ℕ → ℕ
 relocated base a e = regionOf base e .first + (a - regionOf a e .first)
 

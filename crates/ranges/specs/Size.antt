@@ -11,20 +11,20 @@ use Rattle.ranges.specs.Range.{regionOf}
 abbrev pub bit : ℕ → ℕ → Bool
 bit x b = eqb (x / 2 ^ b % 2) 1
 
--- the lowest zero bit of the k bits from bit b on, and b + k where there is none
+-- the lowest zero bit among the k bits from bit b on, or b + k if there is none
 unfoldable pub lowestZero : ℕ → ℕ → ℕ → ℕ
 lowestZero zero b x = b
 lowestZero (suc k) b x = cond (bit x b) (lowestZero k (b + 1) x) b
 
--- where the lowest zero bit is b the size is 2 ^ (b + 1); where bits 63:12 are all ones there is none
+-- the lowest zero bit b encodes the size 2 ^ (b + 1); there is no size if bits 63:12 are all ones
 abbrev pub sizeAt : ℕ → Size
 sizeAt b = cond (ltb b 64) (Exponent (b + 1)) NoSize
 
--- S clear is 2 ^ 12 bytes; S set, the lowest zero bit at or above 12 says the size
+-- S clear encodes 2 ^ 12 bytes; with S set, the lowest zero bit at or above 12 gives the size
 unfoldable pub sizeOf : ℕ → Bool → Size
 sizeOf a s = cond s (sizeAt (lowestZero 52 12 a)) (Exponent 12)
 
--- the address with the bits below its size cleared; where there is no size there is no base, and 0 stands for it
+-- the address with the bits below its size cleared; 0 if there is no size
 abbrev pub baseOf : ℕ → Size → ℕ
 baseOf a (Exponent e) = regionOf a e .first
 baseOf a NoSize = 0

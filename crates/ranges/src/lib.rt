@@ -50,7 +50,7 @@ fn size_at(b: u32) -> Size
     }
 }
 
-// The size that an address and its S bit code.
+// The size that an address and its S bit encode.
 pub fn size_of(address: u64, sized: bool) -> Size
     ensures { λ r. ⌜ r ≡ sizeOf address sized ⌝ }
 {
@@ -80,21 +80,21 @@ pub fn region(address: u64, exponent: u32) -> Range
     }
 }
 
-// The smallest unit, as an exponent. An STU above 31, which no reset takes, counts modulo 32.
+// The exponent of the unit, 12 + STU. An STU above 31, which no reset accepts, counts modulo 32.
 pub fn unit_exponent(stu: u8) -> u32
     ensures { λ r. ⌜ r ≡ unitExponent stu ⌝ }
 {
     12 + stu as u32 % 32
 }
 
-// The bytes of a unit.
+// The number of bytes in a unit.
 pub fn unit_bytes(stu: u8) -> u64
     ensures { λ r. ⌜ (r ≡ unitBytes stu) × (1 ≤ r) × (r ≤ 0x800_0000_0000) ⌝ }
 {
     1u64 << unit_exponent(stu)
 }
 
-// Which region of 2^exponent bytes an address lies in, counted from 0.
+// The number of the region of 2^exponent bytes that holds an address, counted from 0.
 pub fn region_number(address: u64, exponent: u32) -> u64
     ensures { λ r. ⌜ r ≡ address / 2 ^ exponent ⌝ }
 {
@@ -111,14 +111,14 @@ fn larger(a: u32, b: u32) -> u32
     if a < b { b } else { a }
 }
 
-// A region rounded up to a unit: the larger of the two exponents.
+// The region of an address, rounded up to a unit: the larger of the two exponents counts.
 pub fn rounded(address: u64, exponent: u32, unit: u32) -> Range
     ensures { λ r. ⌜ r ≡ roundedOf address exponent unit ⌝ }
 {
     region(address, larger(exponent, unit))
 }
 
-// A byte and the `rest` that follow it, as far as addresses go.
+// The range of `rest` + 1 bytes from `first` on, cut off at the top of the address space.
 pub fn range_from(first: u64, rest: u64) -> Range
     ensures { λ r. ⌜ r ≡ rangeFrom first rest ⌝ }
 {
@@ -133,7 +133,8 @@ pub fn range_from(first: u64, rest: u64) -> Range
     }
 }
 
-// The unit that holds an address and the `further` ones after it: 15 at most, whatever the byte says.
+// The range of the unit that holds an address and the `further` units after it.
+// `further` counts modulo 16.
 pub fn units_from(address: u64, further: u8, stu: u8) -> Range
     ensures { λ r. ⌜ r ≡ unitsFrom address further stu ⌝ }
 {
@@ -143,7 +144,7 @@ pub fn units_from(address: u64, further: u8, stu: u8) -> Range
     range_from(first, n * unit - 1)
 }
 
-// The place in the region of `base` that an address has in its own.
+// Moves an address into the region of `base`: the offset in its own region stays the same.
 pub fn relocate(base: u64, address: u64, exponent: u32) -> u64
     ensures { λ r. ⌜ r ≡ relocated base address exponent ⌝ }
 {
@@ -152,6 +153,7 @@ pub fn relocate(base: u64, address: u64, exponent: u32) -> u64
     there + (address - here)
 }
 
+// Do two ranges have a byte in common?
 pub fn overlaps(a: Range, b: Range) -> bool
     ensures { λ r. ⌜ r ≡ overlaps a b ⌝ }
 {
@@ -171,7 +173,7 @@ fn base_of(address: u64, size: Size) -> u64
     }
 }
 
-// A translation taken apart.
+// Decodes an 8-byte translation.
 pub fn translation_of(word: u64) -> Translation
     ensures { λ r. ⌜ r ≡ translationOf word ⌝ }
 {

@@ -1,4 +1,4 @@
--- A part of a slice up to its end, and one past it.
+-- A part of a slice up to its end, and a part past its end.
 use mathlib.Core.Path.{_≡_, sym}
 use mathlib.Core.List.{List}
 use Prim.Native.Nat.{ℕ, _-_, _<_}

@@ -1,4 +1,4 @@
-// The fields of each kind, out of a frame.
+// Decodes the fields of each kind from a frame.
 use packet::Access;
 use packet::Body;
 use packet::Completion;
@@ -18,6 +18,7 @@ use packet::TranslationRequest;
 ghost use mathlib.Core.Path.{_≡_};
 ghost use Rattle.packet.specs.Kinds.{headIn, address64In, trIn, memIn, readRequestIn, countIn, cplIn, invIn, icIn, prqIn, prsIn, bodyIn};
 
+// Traffic Class and sender's ID.
 pub(crate) fn head(f: Frame) -> Head
     ensures { λ r. ⌜ r ≡ headIn f ⌝ }
 {
@@ -126,6 +127,7 @@ fn prs(f: Frame) -> Body
     })
 }
 
+// The body of a packet of form m.
 pub(crate) fn fields(m: Form, f: Frame) -> Body
     ensures { λ r. ⌜ r ≡ bodyIn m f ⌝ }
 {

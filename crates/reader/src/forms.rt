@@ -1,4 +1,5 @@
-// What byte 0 and, of a message, byte 7 choose, and what the choice asks of the header.
+// The form of a packet, which byte 0 selects, and for a message byte 7; and the
+// tests of a header of that form.
 use packet::Choice;
 use packet::Form;
 use packet::Frame;
@@ -8,6 +9,7 @@ ghost use mathlib.Core.Path.{_≡_};
 ghost use Rattle.packet.specs.Forms.{choose, packetLength};
 ghost use Rattle.packet.specs.Kinds.{wellFormedMem, wellFormedReadRequest, wellFormed64, wellFormed};
 
+// The form that byte 0 and byte 7 select.
 pub(crate) fn choice(byte0: u8, byte7: u8) -> Choice
     ensures { λ r. ⌜ r ≡ choose byte0 byte7 ⌝ }
 {
@@ -73,13 +75,15 @@ fn is_well_formed_read_request(f: Frame) -> bool
     }
 }
 
-// A 64-bit form is shaped as the 32-bit one, and its upper half is not zero.
+// A 64-bit form is well formed where the 32-bit form would be, and the upper
+// half of its address is not zero.
 fn is_well_formed_64(f: Frame, rest: bool) -> bool
     ensures { λ r. ⌜ r ≡ wellFormed64 f rest ⌝ }
 {
     if 0 < f.dword8 { rest } else { false }
 }
 
+// Does the header have only values that its form allows?
 pub(crate) fn is_well_formed(m: Form, f: Frame) -> bool
     ensures { λ r. ⌜ r ≡ wellFormed m f ⌝ }
 {

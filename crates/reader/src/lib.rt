@@ -1,5 +1,5 @@
-// Reading a packet. The order of the refusals stands here and in `order`; the kinds are in `forms`
-// and `fields`.
+// Reading a packet. The order of the refusals is here and in `order`; the kinds
+// are in `forms` and `fields`.
 mod fields;
 mod forms;
 mod nums;
@@ -41,6 +41,7 @@ fn decode_frame(b: &[u8]) -> Frame
     }
 }
 
+// Reads a packet, or says with which refusal it is rejected.
 pub fn read_packet(b: &[u8]) -> Reading
     ensures { λ r. ⌜ readResult r ≡ reading (now (b .entry)) ⌝ }
 {
@@ -57,14 +58,14 @@ pub fn read_packet(b: &[u8]) -> Reading
     }
 }
 
-// A packet from byte n on, no copy; nothing where it is shorter.
+// The bytes of a packet from byte n on, without a copy. Empty if the packet is shorter.
 pub fn part_from(b: &[u8], n: usize) -> &[u8]
     ensures { λ r. ⌜ now r ≡ drop n (now (b .entry)) ⌝ }
 {
     if n <= b.len() { &b[n..] } else { &b[..0] }
 }
 
-// The payload of a packet that reads, as a part of it.
+// The payload of a readable packet, without a copy.
 pub fn payload(b: &[u8]) -> &[u8]
     ensures { λ r. ⌜ now r ≡ payloadIn (now (b .entry)) ⌝ }
 {
@@ -77,7 +78,7 @@ pub fn payload(b: &[u8]) -> &[u8]
     }
 }
 
-// QWORD k of a payload; 0 past the last whole one.
+// QWORD k of a payload, or 0 past the last whole one.
 pub fn qword(payload: &[u8], k: usize) -> u64
     ensures { λ r. ⌜ r ≡ qwordAt (now (payload .entry)) k ⌝ }
 {

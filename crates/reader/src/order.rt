@@ -9,7 +9,7 @@ use packet::Refusal;
 ghost use mathlib.Core.Path.{_≡_};
 ghost use Rattle.packet.specs.Reading.{readResult, readForm};
 
-// n is the packet's length.
+// Reads a packet of form m and n bytes from its frame.
 pub(crate) fn read_form(m: Form, f: Frame, n: usize) -> Reading
     ensures { λ r. ⌜ readResult r ≡ readForm m f n ⌝ }
 {

@@ -1,4 +1,4 @@
--- One text laid after another.
+-- One text written after another.
 use mathlib.Core.Path.{_≡_, refl, sym, ap, _∙_}
 use mathlib.Core.Bool.{Bool, true, false, cond}
 use lib.Dec.{ltb}
@@ -45,7 +45,7 @@ then-byte at s b t l n m o u e r h p q w =
 pub lay-byte : (at b : ℕ) (l : List ℕ) → at < length l → set l at b ≡ lay at (b ∷ []) l
 lay-byte at b l h = set-split l at b h ∙ rw (add-one, append-snoc)
 
--- a turn of a copy, and its end
+-- a turn of a copy loop, and its end
 pub copied : (d : List ℕ) (at : ℕ) (s out : List ℕ) (i : ℕ) → at + length s ≤ length d → i < length s
     → out ≡ paste d at s i
     → set out (at + i) (getD s i 0) ≡ paste d at s (i + 1)
@@ -73,7 +73,7 @@ row k a out n l b m c u e v room p q r s =
 pub nothing-laid : (at : ℕ) (l : List ℕ) → Laid at [] l at l
 nothing-laid at l = (sym (add-zero at), sym (rw (append-nil, add-zero) (take-append-drop at l)))
 
--- what was laid at the start, and after what stood there
+-- a text written at the start, and one written after it
 pub laid-start : (s l : List ℕ) (n : ℕ) (m : List ℕ) → Laid 0 s l n m → take n m ≡ s
 laid-start s l n m p = rw (p .1) (take-at s (drop (0 + length s) l) n (sym (p .0 ∙ zero-add (length s))))
 
@@ -83,7 +83,7 @@ laid-after at s l n m h p =
     let e : length (take at l ++ s) ≡ at + length s = length-append (take at l) s ∙ ap (λ (k : ℕ). k + length s) (length-take-le at l h) in
     (rw (zero-add, e) (p .0), rw (zero-add, e) (p .1))
 
--- a row put into the part of a buffer from a place on
+-- a row written to the part of a buffer from an index on
 pub row-after : (at : ℕ) (s out : List ℕ) (n : ℕ) (l : List ℕ) → at + 64 ≤ length out → (n, l) ≡ rowIn s (drop at out)
     → Laid at s out (at + n) (take at out ++ (l ++ drop (length out - at) (drop at out)))
 unfolding rowIn
@@ -103,12 +103,12 @@ laid-length at s l n m h p =
     let e : length (take at l) ≡ at = length-take-le at l (omega arith) in
     rw (p .1, length-append, length-append, e, length-drop) (omega arith)
 
--- ---- what a call leaves of a row
+-- ---- the buffer after a row is written
 
 within : (s out o : List ℕ) → o ≡ s ++ drop (length s) out → length o ≡ length out → length s ≤ length out
 within s out o e l = let f = ap length e ∙ length-append s (drop (length s) out) in omega arith
 
--- a text that stands at the start of a buffer is no longer than the buffer
+-- a text at the start of a buffer is no longer than the buffer
 pub start-within : (s out : List ℕ) (n : ℕ) (o : List ℕ) → (n, o) ≡ atStart s out → length o ≡ length out
     → n ≤ length out
 start-within s out n o e l = rw (ap (λ (x : ℕ × List ℕ). x .0) e) (within s out o (ap (λ (x : ℕ × List ℕ). x .1) e) l)
@@ -122,7 +122,7 @@ row-within s out n o e l = go (ltb (length out) 64) e
     go true q = rw (ap (λ (x : ℕ × List ℕ). x .0) q) zero-le
     go false q = start-within s out n o q l
 
--- nothing is put, whatever the room
+-- an empty row writes nothing, in any buffer
 pub row-none : (out : List ℕ) → rowIn [] out ≡ (0, out)
 unfolding rowIn
 row-none out = go (ltb (length out) 64)
@@ -131,7 +131,7 @@ row-none out = go (ltb (length out) 64)
     go true = refl
     go false = refl
 
--- a row put into a buffer that has room
+-- a row written to a buffer that has room
 pub row-start : (s out : List ℕ) (n : ℕ) (l : List ℕ) → 64 ≤ length out → (n, l) ≡ rowIn s out → Laid 0 s out n l
 unfolding rowIn
 row-start s out n l room e =

@@ -1,4 +1,4 @@
--- What a caller knows of a row of digits.
+-- What a caller knows of an array of digits.
 use mathlib.Core.Path.{_≡_, _∙_}
 use Prim.Native.Nat.{ℕ, _+_, _-_}
 use native.Mathlib.Omega.{arith}

@@ -1,4 +1,4 @@
--- The output line of a packet or of a refusal: number, kind, sender and label, parted by tabs. 01, "Listing program".
+-- The output line of a packet or of a refusal: number, kind, sender and label, separated by tabs. 01, "Listing program".
 use Prim.Native.Nat.{ℕ}
 use mathlib.Core.Bool.{cond}
 use mathlib.Core.List.{List, [], _∷_, _++_}
@@ -12,7 +12,7 @@ use Rattle.packet.specs.declared.Body.the-variants.{Tr, Mem, Cpl, Inv, Ic, Prq,
 use Rattle.packet.specs.Numbers.{Result, ok, refusal}
 use Rattle.text.specs.Digits.{hex4, hex8, decimal}
 
--- T, R; M, E, M; ..
+-- the letters of a kind: TR, MEM, ...
 abbrev pub kindText : Body → List ℕ
 kindText (Tr t) = 84 ∷ 82 ∷ []
 kindText (Mem m) = 77 ∷ 69 ∷ 77 ∷ []
@@ -42,7 +42,7 @@ abbrev pub answerText : Result Packet → List ℕ
 answerText (ok p) = kindText (p .body) ++ 9 ∷ hex4 (p .head .sender) ++ 9 ∷ labelText (p .body)
 answerText (refusal n) = 66 ∷ 65 ∷ 68 ∷ 9 ∷ decimal n ++ 9 ∷ 45 ∷ []
 
--- the output line of line k, of which so much is said
+-- the output line of line k, with this content
 unfoldable pub outLine : ℕ → Result Packet → List ℕ
 outLine k a = decimal k ++ 9 ∷ answerText a ++ 10 ∷ []
 
@@ -50,6 +50,7 @@ outLine k a = decimal k ++ 9 ∷ answerText a ++ 10 ∷ []
 abbrev pub atStart : List ℕ → List ℕ → ℕ × List ℕ
 atStart s out = (length s, s ++ drop (length s) out)
 
--- what a call answers and leaves in out: without room for 64 bytes, which is more than a line has, nothing
+-- the result of a call and the buffer after it; nothing is written without room for 64 bytes,
+-- which is more than any line needs
 unfoldable pub rowIn : List ℕ → List ℕ → ℕ × List ℕ
 rowIn s out = cond (ltb (length out) 64) (0, out) (atStart s out)

@@ -1,4 +1,4 @@
--- What letters and labels print. Serves 01, "Listing program".
+-- The text of letters and labels. Serves 01, "Listing program".
 use mathlib.Core.Bool.{cond}
 use Prim.Native.Nat.{ℕ}
 use mathlib.Core.List.{List, [], _∷_}

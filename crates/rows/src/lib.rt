@@ -7,8 +7,8 @@ ghost use mathlib.Core.Path.{_≡_};
 ghost use Rattle.packet.specs.Numbers.{ok, refusal};
 ghost use Rattle.rows.specs.Rows.{outLine, rowIn};
 
-// The output line of line k, which is packet p, at the start of `out`, and its length. An `out` of
-// fewer than 64 bytes is left as it was.
+// Writes the output line of line k, which holds packet p, to the start of `out` and returns its
+// length. An `out` of fewer than 64 bytes is left unchanged.
 pub fn packet_row(k: u64, p: Packet, out: &mut [u8]) -> usize
     ensures { λ r. ⌜ (r, now (out .exit)) ≡ rowIn (outLine k (ok p)) (now (out .entry)) ⌝ }
 {
@@ -21,7 +21,7 @@ pub fn packet_row(k: u64, p: Packet, out: &mut [u8]) -> usize
     put::byte(out, c, b'\n')
 }
 
-// The same of line k, which is refused with number n.
+// Writes the output line of line k, which is refused with number n, in the same way.
 pub fn bad_row(k: u64, n: u8, out: &mut [u8]) -> usize
     ensures { λ r. ⌜ (r, now (out .exit)) ≡ rowIn (outLine k (refusal n)) (now (out .entry)) ⌝ }
 {

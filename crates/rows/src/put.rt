@@ -1,4 +1,4 @@
-// Text put into a buffer at a place; each answers the place after it.
+// Writes text into a buffer at an index. Each function returns the index after the text.
 use crate::words;
 use crate::words::Label;
 use crate::words::Letters;
@@ -12,6 +12,7 @@ ghost use Rattle.rows.specs.Rows.{answerText};
 ghost use Rattle.rows.specs.Words.{lettersText, printedLabel};
 ghost use Rattle.rows.specs.Places.{Laid};
 
+// One byte.
 pub(crate) fn byte(out: &mut [u8], at: usize, b: u8) -> usize
     requires { ⌜ at < length (now out) ⌝ }
     ensures { λ r. ⌜ Laid at (b ∷ []) (now (out .entry)) r (now (out .exit)) ⌝ }
@@ -32,6 +33,7 @@ fn text(out: &mut [u8], at: usize, src: &[u8]) -> usize
     at + i
 }
 
+// A number in decimal.
 pub(crate) fn decimal(out: &mut [u8], at: usize, n: u64) -> usize
     requires { ⌜ at + 20 ≤ length (now out) ⌝ }
     ensures { λ r. ⌜ Laid at (decimal n) (now (out .entry)) r (now (out .exit)) ⌝ }
@@ -85,6 +87,7 @@ fn label(out: &mut [u8], at: usize, l: Label) -> usize
     }
 }
 
+// Kind, sender and label of a packet.
 pub(crate) fn packet(out: &mut [u8], at: usize, p: Packet) -> usize
     requires { ⌜ at + 29 ≤ length (now out) ⌝ }
     ensures { λ r. ⌜ Laid at (answerText (ok p)) (now (out .entry)) r (now (out .exit)) ⌝ }
@@ -98,6 +101,7 @@ pub(crate) fn packet(out: &mut [u8], at: usize, p: Packet) -> usize
     label(out, d, words::label_of(body))
 }
 
+// A refusal: BAD, its number and a dash.
 pub(crate) fn bad(out: &mut [u8], at: usize, n: u8) -> usize
     requires { ⌜ at + 29 ≤ length (now out) ⌝ }
     ensures { λ r. ⌜ Laid at (answerText (refusal n)) (now (out .entry)) r (now (out .exit)) ⌝ }

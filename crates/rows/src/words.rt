@@ -1,4 +1,4 @@
-// The words of a packet's line.
+// The kind and the label of a packet's output line.
 use packet::Access;
 use packet::Body;
 ghost use mathlib.Core.Path.{_≡_};
@@ -19,6 +19,7 @@ pub(crate) enum Label {
     Dash,
 }
 
+// The letters of a packet's kind.
 pub(crate) fn letters_of(body: Body) -> Letters
     ensures { λ r. ⌜ lettersText r ≡ kindText body ⌝ }
 {
@@ -70,6 +71,7 @@ fn access_label(a: Access) -> Label
     }
 }
 
+// The label of a packet: Tag, ITag, PRG index or vector.
 pub(crate) fn label_of(body: Body) -> Label
     ensures { λ r. ⌜ printedLabel r ≡ labelText body ⌝ }
 {

@@ -1,1 +1,1 @@
-// Settlement of every public operation: theorems only, in proofs/.
+// The contract of every public operation allows only one outcome. Theorems only, in proofs/.

@@ -1,4 +1,4 @@
--- Laws of the state, and of what calls leave and say.
+-- Laws of the state, and of the effects and answers of calls.
 use mathlib.Core.Path.{_≡_, refl}
 use mathlib.Core.Bool.{Bool, true, false, cond}
 use mathlib.Core.List.{List, []}
@@ -15,13 +15,13 @@ use Rattle.state.specs.State.{rcbOf, fresh}
 use Rattle.state.specs.Answers.{Unrefused, Success, commit, sendsNothing, sendsWritten, sends}
 use Rattle.state.specs.Switches.{resetting}
 
--- resetting to ID 0, STU 0, RCB 64 leaves a new Function, whatever was before
+-- a reset to ID 0, STU 0, RCB 64 gives a new Function, from any state
 pub reset-is-new : (f : Function) (out : List ℕ)
     → commit f out (resetting (record { id = 0; stu = 0; rcb = 64 })) .state ≡ fresh 0 0 (rcbOf 64)
 unfolding resetting
 reset-is-new f out = refl
 
--- what is sent is refused only for want of room
+-- a packet to send is refused only for lack of room
 pub sends-numbers : (l : List ℕ) (f : Function) (w : Unrefused) (p : Packet) (load out : List ℕ) → isAmong 17 l ≡ true
     → Sendable p (length load) → Among l (sends f w p load out)
 unfolding sends
@@ -32,7 +32,7 @@ sends-numbers l f w p load out h s =
     go (ok n) h = among-ok l (record { state = f; answer = w; sent = n; bytes = bytesOf p load })
     go (refusal n) h = among-refusal l n (h .one n refl)
 
--- Q holds of what a call does, if it is not refused
+-- Q holds for the effect of a call, if it is not refused
 pub record Does (Q : Success → Type 0) (s : Result Success) : Type 0 where
   pub success : (d : Success) → s ≡ ok d → Q d
 
@@ -48,7 +48,7 @@ module _ (Q : Success → Type 0) where
       → Does Q (cond t a b)
   does-case t a b = either-case (Does Q) t a b
 
-  -- a packet that goes out is one that could be written
+  -- a packet that is sent is one that could be written
   pub does-write : (g : Function) (w : Unrefused) (p : Packet) (load out : List ℕ)
       → ((n : ℕ) → writing p (length load) (length out) ≡ ok n → Q (record { state = g; answer = w; sent = n; bytes = bytesOf p load }))
       → Does Q (sends g w p load out)
@@ -66,7 +66,7 @@ module _ (Q : Success → Type 0) where
 
 pub ruleset does = (does-nothing, does-refusal, does-case, does-send)
 
--- what holds of the state before a call, and of the one that it leaves, holds after it
+-- a property of the state before a call and of its new state holds after it, refused or not
 pub commit-in : (Q : Function → Type 0) (f : Function) (out : List ℕ) (s : Result Success) → Q f
     → Does (λ d. Q (d .state)) s → Q (commit f out s .state)
 commit-in Q f out (ok d) h k = k .success d refl

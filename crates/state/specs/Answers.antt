@@ -1,4 +1,4 @@
--- What calls answer, and what they leave. 01, "What unrefused calls answer", "The seventeen numbers".
+-- The answers of calls, and their effects. 01, "What unrefused calls answer", "The seventeen numbers".
 use mathlib.Core.List.{List, [], _++_}
 use Prim.Native.Nat.{ℕ}
 use lib.ListN.{length, drop}
@@ -40,28 +40,28 @@ answerResult PayloadLast = ok payloadLast
 answerResult ReadFailed = ok readFailed
 answerResult (Refused r) = refusal (numberOf r)
 
--- What a call does that is not refused: the state after it, its answer, and the packet that it sends, with its length;
--- no bytes where it sends none.
+-- The effect of an unrefused call: the state after it, its answer, and the packet that it sends with its
+-- length; no bytes if it sends none.
 pub record Success : Type 0 where
   pub state : Function
   pub answer : Unrefused
   pub sent : ℕ
   pub bytes : List ℕ
 
--- What is seen of a call: the state after it, its answer, the length of what it sent, and the buffer.
+-- The observable result of a call: the state after it, its answer, the length of the packet sent, and the buffer.
 pub record Observed : Type 0 where
   pub state : Function
   pub answer : Result Unrefused
   pub sent : ℕ
   pub buffer : List ℕ
 
--- Refused, a call leaves state and buffer as they were. Else its effect is committed: the state is the new one, and the
--- buffer begins with the bytes sent and goes on as it was.
+-- A refused call leaves state and buffer unchanged. Otherwise its effect is committed: the state is the new one, and
+-- the buffer begins with the bytes sent and is unchanged after them.
 abbrev pub commit : Function → List ℕ → Result Success → Observed
 commit f out (ok d) = record { state = d .state; answer = ok (d .answer); sent = d .sent; buffer = d .bytes ++ drop (length (d .bytes)) out }
 commit f out (refusal n) = record { state = f; answer = refusal n; sent = 0; buffer = out }
 
--- what the code's answer says, with the buffer as it stands then
+-- the result of the code, with the buffer after the call
 abbrev pub observed : Effect → List ℕ → Observed
 observed r out = record { state = r .state; answer = answerResult (r .answer); sent = r .sent; buffer = out }
 
@@ -75,7 +75,7 @@ refusedWith f r = withoutPacket f (Refused r)
 abbrev pub sendsNothing : Function → Unrefused → Result Success
 sendsNothing f w = ok (record { state = f; answer = w; sent = 0; bytes = [] })
 
--- a call that sends a packet, with its payload, if the writer takes it: 17 where there is no room
+-- a call that sends a packet with its payload, if it can be written; refused with 17 if there is no room
 abbrev pub sendsWritten : Function → Unrefused → List ℕ → Result ℕ → Result Success
 sendsWritten f w bytes (ok n) = ok (record { state = f; answer = w; sent = n; bytes = bytes })
 sendsWritten f w bytes (refusal n) = refusal n

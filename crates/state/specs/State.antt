@@ -18,7 +18,7 @@ use Rattle.state.specs.declared.Agent.{Agent}
 use Rattle.state.specs.declared.Agent.the-variants.{Unknown}
 use Rattle.state.specs.declared.Function.{Function}
 
--- every packet goes out on Traffic Class 0
+-- every packet is sent on Traffic Class 0
 abbrev pub headOf : ℕ → Head
 headOf id = record { tc = 0; sender = id }
 
@@ -29,7 +29,8 @@ isRcb bytes = eqb bytes 64 || eqb bytes 128
 abbrev pub rcbOf : ℕ → Rcb
 rcbOf bytes = cond (eqb bytes 128) B128 B64
 
--- what a reset leaves: nothing cached, open or waiting, no agent, the hand at slot 0, E clear and no page interface
+-- the state after a reset: nothing cached, outstanding or waiting, no agent, the hand at slot 0, E
+-- clear and the page interface off
 abbrev pub fresh : ℕ → ℕ → Rcb → Function
 fresh id stu rcb =
     record {
@@ -44,7 +45,7 @@ fresh id stu rcb =
       pages = switchedOff;
     }
 
--- the Function with its parts changed; below, with one of them
+-- the Function with its parts replaced; below, with one of them replaced
 abbrev pub remade : Function → Bool → Agent → ℕ → Cache → List TagRow → Pages → Function
 remade f enabled agent waiting cache tags pages =
     record {

@@ -13,34 +13,34 @@ use Rattle.state.specs.declared.ResetArgs.{ResetArgs}
 use Rattle.state.specs.State.{isRcb, rcbOf, fresh, withEnable, withCache, withTags, withPages}
 use Rattle.state.specs.Answers.{Success, done, sendsNothing}
 
--- a reset sets ID, STU and RCB; an STU over 31 and an RCB that is none are 12
+-- a reset sets ID, STU and RCB; refused with 12 if the STU is above 31 or the RCB is invalid
 unfoldable pub resetting : ResetArgs → Result Success
 resetting a =
     check 12 (leb (a .stu) 31)
     (check 12 (isRcb (a .rcb))
     (sendsNothing (fresh (a .id) (a .stu) (rcbOf (a .rcb))) done))
 
--- from clear to set E empties the cache, the hand staying, and marks open Translation Requests stale
+-- setting E when it is clear empties the cache, leaves the hand, and makes outstanding Translation Requests stale
 unfoldable pub enabling : Function → Result Success
 enabling f =
     cond (f .enabled) (sendsNothing f done)
     (sendsNothing (withEnable (withCache (withTags f (allStale (f .tags))) (emptied (f .cache))) true) done)
 
--- else only E changes
+-- clearing E changes nothing else
 unfoldable pub disabling : Function → Result Success
 disabling f = sendsNothing (withEnable f false) done
 
 abbrev pub isAllocation : ℕ → Bool
 isAllocation allocation = leb 1 allocation && leb allocation 512
 
--- switching on: 15 when stopped; 12 when on, and for an allocation outside 1 to 512
+-- switching on: refused with 15 if stopped; with 12 if on, or for an allocation outside 1 to 512
 unfoldable pub switchingOn : Function → ℕ → Interface → Result Success
 switchingOn f allocation Off =
     check 12 (isAllocation allocation) (sendsNothing (withPages f (switchedOn allocation)) done)
 switchingOn f allocation On = refusal 12
 switchingOn f allocation Stopped = refusal 15
 
--- switching off: while on, no group stays open and the allocation is gone; otherwise nothing changes
+-- switching off: if on, all groups are closed and the allocation is 0; otherwise nothing changes
 unfoldable pub switchingOff : Function → Interface → Result Success
 switchingOff f Off = sendsNothing f done
 switchingOff f On = sendsNothing (withPages f switchedOff) done

@@ -14,13 +14,13 @@ ghost use Rattle.state.specs.State.{headOf, fresh, withEnable, withAgent
 ghost use Rattle.state.specs.Answers.{refusedWith, withoutPacket, observed, commit};
 ghost use Rattle.state.specs.Switches.{resetting, enabling, disabling, switchingOn, switchingOff, isAllocation};
 
-// Who sends Invalidate Requests; known from the first accepted one on.
+// The requester of Invalidate Requests, known from the first accepted one on.
 pub enum Agent {
     Unknown,
     Known(u16),
 }
 
-// `waiting` has the ITags whose completion is not yet sent.
+// The state of the Function. `waiting` has the ITags whose Invalidate Completion is still due.
 pub struct Function {
     pub id: u16,
     pub stu: u8,
@@ -33,7 +33,7 @@ pub struct Function {
     pub pages: Pages,
 }
 
-// What a call answers.
+// The answer of a call.
 pub enum Answer {
     Done,
     Opened(Tag),
@@ -56,6 +56,7 @@ pub struct Effect {
     pub sent: usize,
 }
 
+// The Function with E set or clear.
 pub fn with_enable(mut f: Function, enabled: bool) -> Function
     ensures { λ r. ⌜ r ≡ withEnable f enabled ⌝ }
 {
@@ -63,6 +64,7 @@ pub fn with_enable(mut f: Function, enabled: bool) -> Function
     f
 }
 
+// The Function with another agent.
 pub fn with_agent(f: Function, agent: Agent) -> Function
     ensures { λ r. ⌜ r ≡ withAgent f agent ⌝ }
 {
@@ -83,6 +85,7 @@ pub fn with_agent(f: Function, agent: Agent) -> Function
     }
 }
 
+// The Function with other waiting ITags.
 pub fn with_waiting(mut f: Function, waiting: u32) -> Function
     ensures { λ r. ⌜ r ≡ withWaiting f waiting ⌝ }
 {
@@ -90,6 +93,7 @@ pub fn with_waiting(mut f: Function, waiting: u32) -> Function
     f
 }
 
+// The Function with another cache.
 pub fn with_cache(mut f: Function, cache: Cache) -> Function
     ensures { λ r. ⌜ r ≡ withCache f cache ⌝ }
 {
@@ -97,6 +101,7 @@ pub fn with_cache(mut f: Function, cache: Cache) -> Function
     f
 }
 
+// The Function with other tags.
 pub fn with_tags(mut f: Function, tags: [TagRow; 32]) -> Function
     ensures { λ r. ⌜ r ≡ withTags f tags ⌝ }
 {
@@ -104,6 +109,7 @@ pub fn with_tags(mut f: Function, tags: [TagRow; 32]) -> Function
     f
 }
 
+// The Function with another page interface.
 pub fn with_pages(mut f: Function, pages: Pages) -> Function
     ensures { λ r. ⌜ r ≡ withPages f pages ⌝ }
 {
@@ -111,7 +117,7 @@ pub fn with_pages(mut f: Function, pages: Pages) -> Function
     f
 }
 
-// One tag is open for something else, or free.
+// The Function with another state of one tag.
 pub fn with_tag(f: Function, t: Tag, o: TagState) -> Function
     ensures { λ r. ⌜ r ≡ withTag f t o ⌝ }
 {
@@ -120,13 +126,14 @@ pub fn with_tag(f: Function, t: Tag, o: TagState) -> Function
     with_tags(f, next)
 }
 
+// The effect of a refused call: the state stays and nothing is sent.
 pub fn refused(f: Function, r: Refusal) -> Effect
     ensures { λ o. ⌜ o ≡ refusedWith f r ⌝ }
 {
     answered(f, Answer::Refused(r))
 }
 
-// A call that sends nothing.
+// The effect of a call that sends nothing.
 pub fn answered(f: Function, answer: Answer) -> Effect
     ensures { λ o. ⌜ o ≡ withoutPacket f answer ⌝ }
 {
@@ -157,7 +164,7 @@ fn fresh_function(id: u16, stu: u8, rcb: Rcb) -> Function
     }
 }
 
-// What a reset to ID 0, STU 0, RCB 64 would leave.
+// A new Function: as after a reset to ID 0, STU 0, RCB 64.
 pub fn new() -> Function
     ensures { λ r. ⌜ r ≡ fresh 0 0 (rcbOf 64) ⌝ }
 {
@@ -177,13 +184,14 @@ fn rcb_of(bytes: u8) -> Rcb
     if bytes == 128 { Rcb::B128 } else { Rcb::B64 }
 }
 
-// What a reset sets.
+// The arguments of a reset.
 pub struct ResetArgs {
     pub id: u16,
     pub stu: u8,
     pub rcb: u8,
 }
 
+// Resets the Function to an ID, STU and RCB.
 pub fn reset(f: Function, a: ResetArgs) -> Effect
     ensures { λ r. ⌜ observed r [] ≡ commit f [] (resetting a) ⌝ }
 {
@@ -198,7 +206,7 @@ pub fn reset(f: Function, a: ResetArgs) -> Effect
     }
 }
 
-// E goes from clear to set: the cache is emptied and open Translation Requests are out of date.
+// Sets E. If it was clear, the cache is emptied and outstanding Translation Requests become stale.
 pub fn enable(f: Function) -> Effect
     ensures { λ r. ⌜ observed r [] ≡ commit f [] (enabling f) ⌝ }
 {
@@ -215,13 +223,14 @@ pub fn enable(f: Function) -> Effect
     )
 }
 
+// Clears E.
 pub fn disable(f: Function) -> Effect
     ensures { λ r. ⌜ observed r [] ≡ commit f [] (disabling f) ⌝ }
 {
     answered(with_enable(f, false), Answer::Done)
 }
 
-// An allocation is 1 to 512.
+// Is an allocation from 1 to 512?
 fn is_allocation(allocation: u16) -> bool
     ensures { λ r. ⌜ r ≡ isAllocation allocation ⌝ }
 {
@@ -243,6 +252,7 @@ fn switch_on(f: Function, allocation: u16) -> Effect
     }
 }
 
+// Switches the page interface on, with an allocation of credits.
 pub fn pages_on(f: Function, allocation: u16) -> Effect
     ensures { λ r. ⌜ observed r [] ≡ commit f [] (switchingOn f allocation (f .pages .interface)) ⌝ }
 {
@@ -255,6 +265,7 @@ pub fn pages_on(f: Function, allocation: u16) -> Effect
     }
 }
 
+// Switches the page interface off.
 pub fn pages_off(f: Function) -> Effect
     ensures { λ r. ⌜ observed r [] ≡ commit f [] (switchingOff f (f .pages .interface)) ⌝ }
 {
@@ -270,7 +281,7 @@ pub fn pages_off(f: Function) -> Effect
     }
 }
 
-// Every packet goes out on Traffic Class 0.
+// The head of a packet to send: Traffic Class 0 and the Function's ID.
 pub fn head(id: u16) -> Head
     ensures { λ r. ⌜ r ≡ headOf id ⌝ }
 {

@@ -32,12 +32,12 @@ use Rattle.tags.specs.Tags.{tagRow, allFree, isFreeState, isFreeRow, fre
 
 -- ---- ITags in vectors
 
--- an ITag is in a union where it is in either,
+-- an ITag is in a union if and only if it is in one of the two,
 pub in-either : (v w : ℕ) (i : ITag) → isIn (bitOr v w) i ≡ (isIn v i || isIn w i)
 unfolding isIn
 in-either v w i = or-set v w (bitIndex i)
 
--- in a difference where it is in the one and not in the other,
+-- in a difference if it is in the first and not in the second,
 pub in-without : (v w : ℕ) (i : ITag) → isIn (without v w) i ≡ (isIn v i && not (isIn w i))
 unfolding isIn without
 in-without v w i = without-set v w (bitIndex i)
@@ -47,18 +47,18 @@ pub in-none : (i : ITag) → isIn 0 i ≡ false
 unfolding isIn
 in-none i = none-set (bitIndex i)
 
--- what joins a vector is in it beside what was
+-- an added ITag is in the vector, with those before
 pub in-withItag : (v : ℕ) (i j : ITag) → isIn (withItag v i) j ≡ (isIn v j || eqb (bitIndex i) (bitIndex j))
 unfolding withItag isIn
 in-withItag v i j =
     in-either v (2 ^ bitIndex i) j ∙ ap (λ (t : Bool). isIn v j || t) (power-set (bitIndex i) (bitIndex j))
 
--- the bit of an ITag stands for it,
+-- an ITag is determined by its bit,
 pub in-bitIndex : (v : ℕ) (i : ITag) → isIn v (record { 0 = bitIndex i }) ≡ isIn v i
 unfolding isIn
 in-bitIndex v i = let same : bitIndex (record { 0 = bitIndex i }) ≡ bitIndex i = omega arith in rw same
 
--- and 32 bits hold what joins them, and what is left of them
+-- and 32 bits are enough after adding and removing
 pub withItag-lt : (v : ℕ) (i : ITag) → v < 2 ^ 32 → withItag v i < 2 ^ 32
 unfolding withItag
 withItag-lt v i h = or-lt 32 v (2 ^ bitIndex i) h (pow-lt (let five : bitIndex i < 32 = omega arith in five))
@@ -69,7 +69,7 @@ without-le v w = omega arith
 
 -- ---- what reads delay
 
--- place k of the tags, free past the last
+-- row k of the tags, free past the last
 abbrev rowAt : List TagRow → ℕ → TagRow
 rowAt tags k = getD tags k (tagRow Free)
 
@@ -99,7 +99,7 @@ pub record Delaying (tags : List TagRow) (i : ITag) : Type 0 where
 not-read : (r : PendingRead) → Free ≡ Read r → ⊥
 not-read r e = impossible cc
 
--- the delayed ITags are those that some open read delays
+-- the delayed ITags are exactly those that some outstanding read delays
 pub delayed-exactly : (tags : List TagRow) (i : ITag) → length tags ≡ 32
     → (isIn (delayedItags tags) i ≡ true) ↔ Delaying tags i
 unfolding tagState
@@ -122,20 +122,20 @@ delayed-exactly tags i all =
         (λ u. let q : rowAt tags (h .tag .0) .state ≡ Read (h .read) = rw u at (h .state) in delayed-by i tags (h .tag .0) (rw q (h .delays)))
         (λ u. absurd (not-read (h .read) (rw u at (h .state))))
 
--- ---- a tag opened or freed
+-- ---- setting the state of a tag
 
--- no tag is open for anything at first,
+-- at first every tag is free,
 pub free-tagState : (t : Tag) → tagState allFree t ≡ Free
 unfolding tagState
 free-tagState t = byCases (isTag t) (λ u. rw (u, getD-replicate 32 (t .0) (tagRow Free) (tagRow Free) (ltb-true (t .0) 32 u))) (λ u. rw u)
 
--- and what is open is one of the 32
+-- and a tag that is not free is one of the 32
 pub tagState-tag : (tags : List TagRow) (t : Tag) → (tagState tags t ≡ Free → ⊥) → isTag t ≡ true
 unfolding tagState
 tagState-tag tags t used = byCases (isTag t) (λ u. u) (λ u. absurd (used (rw u refl)))
 
 module _ (tags : List TagRow) (t : Tag) (o : TagState) where
-  -- the places stay as many
+  -- the number of tags does not change
   pub setTag-long : length (setTag tags t o) ≡ length tags
   unfolding setTag
   setTag-long = byCases (isTag t) (λ u. rw u (length-set tags (t .0) (tagRow o))) (λ u. rw u)
@@ -146,12 +146,12 @@ module _ (tags : List TagRow) (t : Tag) (o : TagState) where
   setTag-other u n =
       byCases (isTag t) (λ e. rw (e, getD-set-other tags (t .0) (u .0) (tagRow o) (tagRow Free) n)) (λ e. rw e)
 
-  -- and its own is open for just that
+  -- and its own state is the new one
   pub setTag-own : length tags ≡ 32 → isTag t ≡ true → tagState (setTag tags t o) t ≡ o
   unfolding tagState setTag
   setTag-own all e = rw (e, getD-set-same tags (t .0) (tagRow o) (tagRow Free) (rw all (ltb-true (t .0) 32 e)))
 
--- a freed tag delays nothing, and the others delay what they did
+-- a freed tag delays nothing, and the others delay the same ITags as before
 pub freed-exactly : (tags : List TagRow) (t : Tag) (i : ITag) → length tags ≡ 32
     → Delaying (setTag tags t Free) i ↔ ((h : Delaying tags i) × (h .tag .0 ≡ t .0 → ⊥))
 unfolding tagState
@@ -169,9 +169,9 @@ freed-exactly tags t i all = (there, λ p. record { tag = p .0 .tag; read = p .0
         (λ b. let n = eqb-false (h .tag .0) (t .0) b in
         (record { tag = h .tag; read = h .read; state = sym (setTag-other tags t Free (h .tag) n) ∙ h .state; delays = h .delays }, n))
 
--- ---- tags marked
+-- ---- tags after an invalidation
 
--- the places stay as many
+-- the number of tags does not change
 pub invalidated-long : (tags : List TagRow) (range : Range) (i : ITag)
     → length (invalidatedTags range i tags) ≡ length tags
 unfolding invalidatedTags
@@ -181,7 +181,7 @@ pub allStale-long : (tags : List TagRow) → length (allStale tags) ≡ length t
 unfolding allStale
 allStale-long tags = length-map tags staleRow
 
--- ---- every tag changed alike
+-- ---- the same change to every tag
 
 module _ (g : TagState → TagState) (at : TagRow → TagRow) (same : (p : TagRow) → at p .state ≡ g (p .state)) (free : g Free ≡ Free) (tags : List TagRow) where
   pub tagState-map : (t : Tag) → tagState (map at tags) t ≡ g (tagState tags t)
@@ -193,7 +193,7 @@ module _ (g : TagState → TagState) (at : TagRow → TagRow) (same : (p : TagRo
       nothing : at (tagRow Free) ≡ tagRow Free
       nothing = ap (λ (o : TagState). tagRow o) (same (tagRow Free) ∙ free)
 
--- E set: every Translation Request goes stale
+-- setting E: every Translation Request becomes stale
 pub tagState-allStale : (tags : List TagRow) (t : Tag) → tagState (allStale tags) t ≡ staleState (tagState tags t)
 unfolding allStale
 tagState-allStale tags t = tagState-map staleState staleRow (λ p. one (p .state) p refl) refl tags t
@@ -203,13 +203,13 @@ tagState-allStale tags t = tagState-map staleState staleRow (λ p. one (p .state
     one (Translate q) p e = rw e
     one (Read r) p e = rw e
 
--- the range of a Translation Request goes by its address and its number of units,
+-- the range of a Translation Request is determined by its address and number of units,
 pub translationRange-units : (t : PendingTranslation)
     → translationRange t ≡ unitsFrom (t .address) (t .further) (t .stu)
 unfolding translationRange
 translationRange-units t = refl
 
--- and an invalidation concerns it by that range, and a translated read by all its bytes
+-- and decides whether an invalidation overlaps it; for a translated read its bytes do
 pub overlaps-translation : (range : Range) (t : PendingTranslation)
     → pendingOverlaps range (Translate t) ≡ overlaps (translationRange t) range
 unfolding pendingOverlaps
@@ -220,7 +220,7 @@ pub overlaps-read : (range : Range) (f : PendingRead)
 unfolding pendingOverlaps readRange
 overlaps-read range f = refl
 
--- an invalidation marks what it concerns
+-- an invalidation changes exactly the overlapping tags
 module _ (range : Range) (i : ITag) where
   abbrev pub invalidatedIf : TagState → TagState
   invalidatedIf o = cond (pendingOverlaps range o) (invalidatedState i o) o
@@ -236,7 +236,7 @@ module _ (range : Range) (i : ITag) where
       one true p = refl
       one false p = refl
 
--- a tag that is stored is open for that, and no other changes
+-- the tag that is set has the new state, and no other changes
 pub tagState-setTag : (tags : List TagRow) (t : Tag) (o : TagState) (u : Tag) → length tags ≡ 32 → isTag t ≡ true
     → tagState (setTag tags t o) u ≡ cond (eqb (u .0) (t .0)) o (tagState tags u)
 tagState-setTag tags t o u all own =

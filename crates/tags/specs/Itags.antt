@@ -5,17 +5,17 @@ use lib.Dec.{eqb}
 use lib.Bits.{bitAnd, bitOr}
 use Rattle.packet.specs.declared.ITag.{ITag}
 
--- the bit of an ITag, which has five bits itself
+-- the bit of an ITag; an ITag has five bits
 abbrev pub bitIndex : ITag → ℕ
 bitIndex itag = itag .0 % 32
 
 unfoldable pub isIn : ℕ → ITag → Bool
 isIn v itag = eqb (v / 2 ^ bitIndex itag % 2) 1
 
--- v and the ITag
+-- v with one more ITag
 unfoldable pub withItag : ℕ → ITag → ℕ
 withItag v itag = bitOr v (2 ^ bitIndex itag)
 
--- those of v that are not among the others
+-- v without the ITags of others
 unfoldable pub without : ℕ → ℕ → ℕ
 without v others = v - bitAnd v others

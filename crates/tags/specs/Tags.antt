@@ -26,12 +26,12 @@ tagRow o = record { state = o }
 abbrev pub allFree : List TagRow
 allFree = replicate 32 (tagRow Free)
 
--- a Translation Request as it is sent
+-- a new Translation Request
 abbrev pub newTranslation : ℕ → ℕ → ℕ → TagState
 newTranslation address further stu =
     Translate (record { address = address; further = further; stu = stu; stale = false; size = 0; whole = 0; due = 0 })
 
--- a read as it is sent
+-- a new read
 abbrev pub newRead : ℕ → ℕ → Bool → TagState
 newRead address bytes translated =
     Read (record { address = address; bytes = bytes; due = bytes; translated = translated; itags = 0 })
@@ -47,27 +47,27 @@ isFreeRow p = isFreeState (p .state)
 abbrev pub isTag : Tag → Bool
 isTag t = ltb (t .0) 32
 
--- the lowest free tag, where not all are open
+-- the lowest free tag, if there is one
 unfoldable pub freeTag : List TagRow → FreeTag
 freeTag tags = cond (ltb (firstIndex isFreeRow tags) 32) (Lowest (record { 0 = firstIndex isFreeRow tags })) NoneFree
 
--- what a tag is open for
+-- the state of a tag
 unfoldable pub tagState : List TagRow → Tag → TagState
 tagState tags t = cond (isTag t) (getD tags (t .0) (tagRow Free) .state) Free
 
 unfoldable pub setTag : List TagRow → Tag → TagState → List TagRow
 setTag tags t o = cond (isTag t) (set tags (t .0) (tagRow o)) tags
 
--- the units that a Translation Request is for
+-- the range of a Translation Request
 unfoldable pub translationRange : PendingTranslation → Range
 translationRange t = unitsFrom (t .address) (t .further) (t .stu)
 
--- the bytes of a read, by the address asked, however many have come
+-- the range of a read at its untranslated address, however many bytes have come
 unfoldable pub readRange : PendingRead → Range
 readRange f = rangeFrom (f .address) (f .bytes - 1)
 
--- does an invalidation of a range concern it? Translation Requests by their whole range; reads only if
--- sent with a translated address
+-- does an outstanding request overlap an invalidated range? A Translation Request counts with its whole range, a read
+-- only if it was sent with a translated address.
 unfoldable pub pendingOverlaps : Range → TagState → Bool
 pendingOverlaps range Free = false
 pendingOverlaps range (Translate t) = overlaps (translationRange t) range
@@ -79,7 +79,7 @@ staleTranslation t = record { address = t .address; further = t .further; stu = 
 abbrev pub delaying : ITag → PendingRead → PendingRead
 delaying itag f = record { address = f .address; bytes = f .bytes; due = f .due; translated = f .translated; itags = withItag (f .itags) itag }
 
--- a Translation Request is marked stale, a read delays the ITag
+-- a Translation Request becomes stale, a read delays the ITag
 abbrev pub invalidatedState : ITag → TagState → TagState
 invalidatedState itag Free = Free
 invalidatedState itag (Translate t) = Translate (staleTranslation t)
@@ -104,7 +104,7 @@ staleState (Read f) = Read f
 abbrev pub staleRow : TagRow → TagRow
 staleRow p = cond (isTranslation (p .state)) (tagRow (staleState (p .state))) p
 
--- all open Translation Requests are marked stale
+-- all outstanding Translation Requests become stale
 unfoldable pub allStale : List TagRow → List TagRow
 allStale tags = map staleRow tags
 
@@ -116,6 +116,6 @@ delayedBy (Read f) = f .itags
 abbrev pub delayedByRow : TagRow → ℕ
 delayedByRow p = delayedBy (p .state)
 
--- the ITags that some open read delays
+-- the ITags that some outstanding read delays
 unfoldable pub delayedItags : List TagRow → ℕ
 delayedItags tags = foldMap bitOr delayedByRow tags

@@ -12,10 +12,9 @@ ghost use Rattle.lemmas.specs.First.{firstIndex};
 ghost use Rattle.tags.specs.declared.TagState.the-variants.{Translate, Read};
 ghost use Rattle.tags.specs.Tags.{newTranslation, newRead, allFree, isFreeState, freeTag, tagState, setTag, translationRange, readRange, pendingOverlaps, invalidatedState, invalidatedTags, isTranslation, staleState, allStale, delayedBy, delayedItags};
 
-// An open Translation Request: the address asked for, how many units beyond the first, the STU that
-// says how large they are, and whether an invalidation overlapped it. After a first packet of two also the
-// size of its translations as an exponent, the Byte Count of both packets and what the second has to
-// bring; else 0.
+// An outstanding Translation Request: its address, how many units beyond the first, the STU, and
+// whether it is stale. After the first of two packets also the exponent of the translations' size,
+// the Byte Count of both packets and the bytes due in the second; otherwise these are 0.
 pub struct PendingTranslation {
     pub address: u64,
     pub further: u8,
@@ -26,8 +25,8 @@ pub struct PendingTranslation {
     pub due: u16,
 }
 
-// An open read: the address asked for, its bytes and how many are still due, whether it was sent
-// with a translated address, and the ITags that wait for it.
+// An outstanding read: the untranslated address, its bytes and how many are still due, whether it
+// was sent with a translated address, and the ITags that it delays.
 pub struct PendingRead {
     pub address: u64,
     pub bytes: u16,
@@ -46,12 +45,13 @@ pub struct TagRow {
     pub state: TagState,
 }
 
-// The lowest free tag, where one is free.
+// The lowest free tag, if there is one.
 pub enum FreeTag {
     Lowest(Tag),
     NoneFree,
 }
 
+// 32 free tags.
 pub fn all_free() -> [TagRow; 32]
     ensures { λ r. ⌜ r ≡ allFree ⌝ }
 {
@@ -61,7 +61,7 @@ pub fn all_free() -> [TagRow; 32]
     [free; 32]
 }
 
-// A Translation Request for the unit that holds an address and the further ones.
+// A new Translation Request for the unit that holds an address and the `further` units after it.
 pub fn new_translation(address: u64, further: u8, stu: u8) -> TagState
     ensures { λ r. ⌜ r ≡ newTranslation address further stu ⌝ }
 {
@@ -76,7 +76,7 @@ pub fn new_translation(address: u64, further: u8, stu: u8) -> TagState
     })
 }
 
-// A read, of which nothing has come.
+// A new read, with all its bytes due.
 pub fn new_read(address: u64, bytes: u16, translated: bool) -> TagState
     ensures { λ r. ⌜ r ≡ newRead address bytes translated ⌝ }
 {
@@ -99,6 +99,7 @@ fn is_free_state(o: TagState) -> bool
     }
 }
 
+// The lowest free tag.
 pub fn lowest_free(tags: [TagRow; 32]) -> FreeTag
     ensures { λ r. ⌜ r ≡ freeTag tags ⌝ }
 {
@@ -114,7 +115,7 @@ pub fn lowest_free(tags: [TagRow; 32]) -> FreeTag
     FreeTag::NoneFree
 }
 
-// What a tag is open for; one above 31 is never open.
+// The state of a tag. A tag above 31 is always free.
 pub fn tag_state(tags: [TagRow; 32], t: Tag) -> TagState
     ensures { λ r. ⌜ r ≡ tagState tags t ⌝ }
 {
@@ -127,6 +128,7 @@ pub fn tag_state(tags: [TagRow; 32], t: Tag) -> TagState
     }
 }
 
+// The tags with another state of one of them.
 pub fn set_tag(mut tags: [TagRow; 32], t: Tag, o: TagState) -> [TagRow; 32]
     ensures { λ r. ⌜ r ≡ setTag tags t o ⌝ }
 {
@@ -143,21 +145,21 @@ fn one_less(n: u16) -> u16
     if n == 0 { 0 } else { n - 1 }
 }
 
-// The bytes that a read asks for.
+// The range that a read asks for.
 fn read_range(f: PendingRead) -> Range
     ensures { λ r. ⌜ r ≡ readRange f ⌝ }
 {
     ranges::range_from(f.address, one_less(f.bytes) as u64)
 }
 
-// The units that a Translation Request is for.
+// The range of a Translation Request.
 pub fn translation_range(t: PendingTranslation) -> Range
     ensures { λ r. ⌜ r ≡ translationRange t ⌝ }
 {
     ranges::units_from(t.address, t.further, t.stu)
 }
 
-// Does an invalidation of a range concern what a tag is open for?
+// Does the outstanding request of a tag overlap an invalidated range? Untranslated reads never do.
 fn pending_overlaps(o: TagState, range: Range) -> bool
     ensures { λ r. ⌜ r ≡ pendingOverlaps range o ⌝ }
 {
@@ -188,7 +190,8 @@ fn delaying(mut f: PendingRead, itag: ITag) -> TagState
     TagState::Read(f)
 }
 
-// A Translation Request becomes stale, a read delays the ITag.
+// The state of an overlapping tag after an invalidation: a Translation Request is
+// stale, a read delays the ITag.
 fn invalidate_state(o: TagState, itag: ITag) -> TagState
     ensures { λ r. ⌜ r ≡ invalidatedState itag o ⌝ }
 {
@@ -199,7 +202,8 @@ fn invalidate_state(o: TagState, itag: ITag) -> TagState
     }
 }
 
-// Every Translation Request and translated read that overlaps the range of an invalidation.
+// Marks every overlapping Translation Request stale, and lets every overlapping
+// translated read delay the ITag.
 pub fn invalidate(mut tags: [TagRow; 32], range: Range, itag: ITag) -> [TagRow; 32]
     ensures { λ r. ⌜ r ≡ invalidatedTags range itag tags ⌝ }
 {
@@ -236,6 +240,7 @@ fn stale_state(o: TagState) -> TagState
     }
 }
 
+// Marks every outstanding Translation Request stale.
 pub fn all_stale(mut tags: [TagRow; 32]) -> [TagRow; 32]
     ensures { λ r. ⌜ r ≡ allStale tags ⌝ }
 {
@@ -262,7 +267,7 @@ fn delayed_by(o: TagState) -> u32
     }
 }
 
-// The ITags that some open read delays.
+// The ITags that some outstanding read delays.
 pub fn delayed_itags(tags: [TagRow; 32]) -> u32
     ensures { λ r. ⌜ r ≡ delayedItags tags ⌝ }
 {

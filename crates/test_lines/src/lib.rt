@@ -1,5 +1,4 @@
-// The program that holds the packet layer against stored vectors: one line of output for each line
-// of input.
+// Tests the packet layer on stored vectors: one line of output for each line of input.
 use packet::Packet;
 use packet::Reading;
 use packet::Writing;
@@ -11,14 +10,14 @@ ghost use Prim.Native.Nat.{_≤_};
 ghost use mathlib.Core.Path.{_≡_};
 ghost use lib.ListN.{length};
 
-// Room for all that a test program reads, or writes.
+// A buffer for all that a test program reads or writes.
 pub fn large_buffer() -> [u8; 1310720]
     ensures { λ r. ⌜ 1310720 ≡ length r ⌝ }
 {
     [0; 1310720]
 }
 
-// How long the first line of a text is: to its line feed, or to the end.
+// The length of the first line of a text, without its line feed.
 pub fn line_length(text: &[u8]) -> usize
     ensures { λ r. ⌜ r ≤ length (now (text .entry)) ⌝ }
 {
@@ -32,13 +31,14 @@ pub fn line_length(text: &[u8]) -> usize
     at
 }
 
-// What a line spells in hex: so many bytes; or nothing, where its count of characters is odd, one of
-// them is no digit, or there are more bytes than there is room for.
+// What a line decodes to: this many bytes; or nothing, if its length is odd, a character is not a
+// hex digit, or the bytes do not fit.
 pub enum Spelled {
     Bytes(usize),
     Nothing,
 }
 
+// Decodes a line of hex.
 pub fn unhex(line: &[u8], bytes: &mut [u8]) -> Spelled {
     if line.len() % 2 == 1 {
         return Spelled::Nothing;
@@ -71,7 +71,7 @@ fn put_again(p: Packet, payload: &[u8], out: &mut [u8], at: usize) -> usize {
     }
 }
 
-// A packet's record, a tab, and the packet written again.
+// Writes a packet's record, a tab, and the packet encoded again.
 fn read_one(b: &[u8], out: &mut [u8], at: usize) -> usize {
     match reader::read_packet(b) {
         Reading::Read(p) => {
@@ -84,7 +84,7 @@ fn read_one(b: &[u8], out: &mut [u8], at: usize) -> usize {
     }
 }
 
-// Gives the bytes of a buffer values that show where one of them was changed or moved.
+// Fills a buffer with values that show whether a byte was changed or moved.
 fn mark(space: &mut [u8]) {
     let mut i = 0;
     while i < space.len() {
@@ -93,8 +93,8 @@ fn mark(space: &mut [u8]) {
     }
 }
 
-// A packet, a tab, and the rest of the buffer that it was written into; or the refusal, a tab, and the
-// whole buffer.
+// Writes the packet, a tab, and the rest of its buffer; or the refusal, a tab,
+// and the whole buffer.
 fn put_written(w: Writing, space: &[u8], out: &mut [u8], at: usize) -> usize {
     match w {
         Writing::Written(n) => {
@@ -120,14 +120,14 @@ fn write_into(r: &[u8], space: &mut [u8], out: &mut [u8], at: usize) -> usize {
     put_written(w, space, out, at)
 }
 
-// The packet of a record, written into a buffer as long as the record says; no record says more than 512.
+// Encodes the packet of a record into a buffer whose length the record gives, at most 512.
 fn write_one(r: &[u8], out: &mut [u8], at: usize) -> usize {
     let mut space = [0u8; 512];
     let room = take::num16(r, 4) as usize % 513;
     write_into(r, &mut space[..room], out, at)
 }
 
-// The base, the size's exponent, and N, U, W and R.
+// Writes the base, the exponent of the size, and N, U, W and R.
 fn put_sized(t: Translation, e: u32, out: &mut [u8], at: usize) -> usize {
     let a = put::hex64(out, at, t.base);
     let b = put::byte(out, a, b'\t');
@@ -148,7 +148,8 @@ fn size_one(r: &[u8], out: &mut [u8], at: usize) -> usize {
     }
 }
 
-// A packet to read, a record to write, or else a translation's size: by the line's first character.
+// Handles a packet to read, a record to write, or a translation to decode, by
+// the line's first character.
 fn decoded(what: u8, r: &[u8], out: &mut [u8], at: usize) -> usize {
     if what == b'R' {
         return read_one(r, out, at);
@@ -159,7 +160,7 @@ fn decoded(what: u8, r: &[u8], out: &mut [u8], at: usize) -> usize {
     size_one(r, out, at)
 }
 
-// A packet's line is refused as the listing refuses it; a record's may be longer.
+// The length limit of a packet's line is that of the listing; a record may be longer.
 fn is_too_long(what: u8, n: usize) -> bool {
     if what == b'R' { 288 < n } else { false }
 }
@@ -179,7 +180,7 @@ fn line(text: &[u8], out: &mut [u8], at: usize) -> usize {
     tried(take::byte(text, 0), take::part(text, 1), out, at)
 }
 
-// One line of output for each line of input; how far the output goes.
+// Writes one line of output for each line of input, and returns the length of the output.
 pub fn run(input: &[u8], out: &mut [u8]) -> usize {
     let mut at = 0;
     let mut from = 0;
@@ -195,7 +196,7 @@ pub fn run(input: &[u8], out: &mut [u8]) -> usize {
     at
 }
 
-// Answers the lines of standard input on standard output, as far as the buffers go.
+// Answers the lines on standard input on standard output, as far as the buffers reach.
 pub fn serve(input: &mut [u8], output: &mut [u8]) {
     let got = io::read_full(0, input);
     let made = run(&input[..got], output);

@@ -1,4 +1,4 @@
-// The call that a record names.
+// Decodes the call of a record.
 use call_access::Direction;
 use card::AccessArgs;
 use card::AskArgs;
@@ -44,6 +44,7 @@ fn take_page_request(r: &[u8]) -> Command {
     })
 }
 
+// The call and its arguments.
 pub(crate) fn take_command(r: &[u8]) -> Command {
     let code = take::byte(r, 0);
     match code {
@@ -61,15 +62,17 @@ pub(crate) fn take_command(r: &[u8]) -> Command {
     }
 }
 
+// Does the record receive a packet?
 pub(crate) fn is_receive(r: &[u8]) -> bool {
     take::byte(r, 0) == 6
 }
 
+// Does the record ask for the whole state?
 pub(crate) fn is_show(r: &[u8]) -> bool {
     take::byte(r, 0) == 15
 }
 
-// The packet of a record that receives one, or the payload of an access; no other call looks at it.
+// The received packet, or the payload of an access. No other call uses it.
 pub(crate) fn take_bytes(r: &[u8]) -> &[u8] {
     if is_receive(r) {
         take::part(r, 1)
@@ -84,7 +87,7 @@ fn least(a: usize, b: usize) -> usize
     if a < b { a } else { b }
 }
 
-// How much of a buffer of `most` bytes is lent; none to a call that never sends.
+// How many of the `most` bytes of a buffer the call is given; 0 for a call that never sends.
 pub(crate) fn take_room(r: &[u8], most: usize) -> usize
     ensures { λ n. ⌜ n ≤ most ⌝ }
 {

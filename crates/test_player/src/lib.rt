@@ -8,13 +8,13 @@ use test_lines::Spelled;
 use test_records::put;
 use test_records::take;
 
-// The Function after a line, and how far the output goes.
+// The Function after a line, and the length of the output.
 struct Played {
     state: Function,
     at: usize,
 }
 
-// A character, then a number.
+// Writes a character and a number.
 fn put_number(first: u8, n: u64, out: &mut [u8], at: usize) -> usize {
     let numeral = text::decimal(n);
     let digits = numeral.digits;
@@ -39,7 +39,7 @@ fn put_answer(a: Answer, out: &mut [u8], at: usize) -> usize {
     }
 }
 
-// A lent buffer up to the last byte that is not as it was before every call.
+// The buffer up to the last byte that differs from its initial value.
 fn touched(lent: &[u8]) -> &[u8] {
     let mut n = lent.len();
     while 0 < n {
@@ -56,8 +56,8 @@ fn put_bytes(bytes: &[u8], out: &mut [u8], at: usize) -> usize {
     put::hexes(out, next, bytes)
 }
 
-// The answer, the length of what was sent, the lent buffer, the payload that was handed back, and
-// the digest of the state.
+// Writes the answer, the length of the packet sent, the buffer, the returned
+// payload, and the digest of the state.
 fn put_effect(e: Effect, lent: &[u8], payload: &[u8], out: &mut [u8], at: usize) -> usize {
     let answer = e.answer;
     let state = e.state;
@@ -105,7 +105,7 @@ fn play_line(f: Function, line: &[u8], out: &mut [u8], at: usize) -> Played {
     }
 }
 
-// The lines of a script, on a new Function; how far the output goes.
+// Plays the lines of a script on a new Function, and returns the length of the output.
 fn play(input: &[u8], out: &mut [u8]) -> usize {
     let mut f = card::new();
     let mut at = 0;
@@ -123,7 +123,7 @@ fn play(input: &[u8], out: &mut [u8]) -> usize {
     at
 }
 
-// Answers the script on standard input on standard output, as far as the buffers go.
+// Plays the script on standard input and writes to standard output, as far as the buffers reach.
 pub fn serve(input: &mut [u8], output: &mut [u8]) {
     let got = io::read_full(0, input);
     let made = play(&input[..got], output);

@@ -1,5 +1,5 @@
-// A packet by its fields, as a record: a run of bytes that has the kind, TC, sender, a length, and
-// the kind's fields. The programs that hold the packet layer against stored vectors speak in them.
+// Records of packets: bytes with the kind, TC, sender, a length, and the fields of the kind. The
+// test programs for stored vectors use them.
 pub mod put;
 pub mod take;
 
@@ -128,7 +128,7 @@ fn put_body(body: Body, out: &mut [u8], at: usize) -> usize {
     }
 }
 
-// The record of a packet of n bytes with its payload.
+// Writes the record of a packet of n bytes with its payload.
 pub fn put_packet(p: Packet, n: u16, payload: &[u8], out: &mut [u8], at: usize) -> usize {
     let head = p.head;
     let body = p.body;
@@ -226,6 +226,7 @@ fn take_body(r: &[u8]) -> Body {
     }
 }
 
+// The packet of a record.
 pub fn take_packet(r: &[u8]) -> Packet {
     Packet {
         head: Head {
@@ -236,7 +237,7 @@ pub fn take_packet(r: &[u8]) -> Packet {
     }
 }
 
-// Where a record's payload begins.
+// The index at which the payload of a record begins.
 fn payload_at(kind: u8) -> usize {
     match kind {
         0 => 18,
@@ -251,6 +252,7 @@ fn payload_at(kind: u8) -> usize {
     }
 }
 
+// The payload of a record.
 pub fn take_payload(r: &[u8]) -> &[u8] {
     take::part(r, payload_at(take::byte(r, 0)))
 }

@@ -1,4 +1,4 @@
-// The state's bytes in hex, and their digest.
+// Writes the bytes of the state in hex, and computes their digest.
 use atc::Cache;
 use atc::Entry;
 use pages::Group;
@@ -45,7 +45,7 @@ fn put_entries(cache: Cache, out: &mut [u8], at: usize) -> usize {
     next
 }
 
-// How many translations came in a first packet of two.
+// How many translations came in the first of two packets.
 fn received_count(t: PendingTranslation) -> u16 {
     if t.due == 0 {
         0
@@ -93,7 +93,7 @@ fn put_tags(tags: [TagRow; 32], out: &mut [u8], at: usize) -> usize {
     next
 }
 
-// The page requests of all groups that have no response.
+// The number of outstanding page requests of all groups.
 fn requests(groups: [Group; 32]) -> u16 {
     let mut sum: u16 = 0;
     let mut i: usize = 0;
@@ -117,7 +117,7 @@ fn put_groups(groups: [Group; 32], out: &mut [u8], at: usize) -> usize {
     next
 }
 
-// The allocation, the credits that are left, and the groups.
+// Writes the allocation, the remaining credits, and the groups.
 fn put_credits(p: Pages, out: &mut [u8], at: usize) -> usize {
     let groups = p.groups;
     let a = put::hex(out, at, 1);
@@ -162,7 +162,7 @@ fn put_settings(f: Function, out: &mut [u8], at: usize) -> usize {
     put_agent(agent, out, d)
 }
 
-// At most 2538 characters.
+// Writes the whole state, at most 2538 characters.
 pub fn put_state(f: Function, out: &mut [u8], at: usize) -> usize {
     let cache = f.cache;
     let tags = f.tags;
@@ -198,6 +198,7 @@ fn digest_of(text: &[u8], bytes: &mut [u8]) -> u32 {
     }
 }
 
+// The digest of the state.
 pub fn state_digest(f: Function) -> u32 {
     let mut text = [0u8; 2538];
     let mut bytes = [0u8; 1269];

@@ -1,4 +1,4 @@
--- Laws of the digits at the end of a row of twenty.
+-- Laws of the digits at the end of an array of twenty.
 use Prim.Native.Nat.{ℕ, zero, suc, _+_, _-_, _/_, _%_, _≤_, zero-le, suc-le-suc}
 use mathlib.Core.Path.{_≡_}
 use mathlib.Core.Bool.{Bool, true, false, cond}
@@ -26,7 +26,7 @@ pub decimal-short : (n : ℕ) → length (decimal n) ≤ 20
 unfolding decimal
 decimal-short n = decimalIn-short 20 n
 
--- the row is twenty long, and the number's digits are those from its start on
+-- the array has twenty elements, and the number's digits are those from `start` on
 pub numeral-starts : (n : ℕ) → numeral n .start + length (decimal n) ≡ 20
 unfolding numeral
 numeral-starts n = let h = decimal-short n in omega arith

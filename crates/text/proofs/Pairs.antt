@@ -1,4 +1,4 @@
--- Laws of hex: bytes spelled pair by pair.
+-- Laws of hex: bytes decoded pair by pair.
 use mathlib.Core.Path.{_≡_, refl, sym, ap, _∙_}
 use mathlib.Core.Bool.{Bool, true, false, _&&_, true≢false}
 use mathlib.Core.List.{List, [], _∷_, _++_}
@@ -60,7 +60,7 @@ rest-at cs n h =
 
 -- ---- pairs
 
--- i bytes spelled by the first i pairs
+-- the first i pairs decode to i bytes
 abbrev pub Run : List ℕ → ℕ → List ℕ → Type 0
 Run cs i bytes = (i * 2 ≤ length cs) × (allHex (take (i * 2) cs) ≡ true) × (take i bytes ≡ unhex (take (i * 2) cs))
 
@@ -89,7 +89,7 @@ module _ (cs bytes : List ℕ) (i : ℕ) (r : Run cs i bytes) (more : i * 2 + 1 
         ∙ sym (ap unhex next-pair ∙ unhex-append (take (i * 2) cs) (getD cs (i * 2) 0 ∷ getD cs (i * 2 + 1) 0 ∷ []) even-front ∙ rw (r .2, eh, el)),
   )
 
--- a pair that spells no byte
+-- a pair that is not a byte
 pub no-high : (x y h : ℕ) → h ≡ hexValue x → 15 < h → (isHex x && isHex y) ≡ false
 no-high x y h e big = rw (← e, le-ltb h 16 (omega arith))
 

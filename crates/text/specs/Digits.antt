@@ -4,7 +4,7 @@ use mathlib.Core.Bool.{Bool, true, cond, _&&_}
 use mathlib.Core.List.{List, [], _∷_, _++_}
 use lib.Dec.{ltb, leb}
 
--- the value of a hex digit, and 16 of any other character
+-- the value of a hex digit, or 16 for any other character
 abbrev pub hexValue : ℕ → ℕ
 hexValue c =
     cond (leb 48 c && leb c 57) (c - 48)
@@ -27,7 +27,7 @@ unfoldable pub allHex : List ℕ → Bool
 allHex [] = true
 allHex (c ∷ cs) = isHex c && allHex cs
 
--- two digits a byte
+-- two digits per byte
 unfoldable pub unhex : List ℕ → List ℕ
 unhex [] = []
 unhex (c ∷ []) = []
@@ -42,7 +42,7 @@ hex4 n = hexDigit (n / 4096 % 16) ∷ hexDigit (n / 256 % 16) ∷ hexDigit (n / 
 abbrev pub hex8 : ℕ → List ℕ
 hex8 n = hex4 (n / 65536) ++ hex4 (n % 65536)
 
--- at most k digits: a 64-bit number has no more than 20
+-- at most k digits; a 64-bit number has at most 20
 unfoldable pub decimalIn : ℕ → ℕ → List ℕ
 decimalIn zero n = []
 decimalIn (suc k) n = cond (ltb n 10) ((48 + n) ∷ []) (decimalIn k (n / 10) ++ ((48 + n % 10) ∷ []))

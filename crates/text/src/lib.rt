@@ -6,7 +6,7 @@ ghost use Prim.Native.Nat.{_<_};
 ghost use Rattle.text.specs.Digits.{hexValue, hexValues, hexDigit, hex4, hex8};
 ghost use Rattle.text.specs.Numerals.{numeral};
 
-// The value of a hex digit, and 16 of any other character.
+// The value of a hex digit, or 16 for any other character.
 pub fn hex_value(c: u8) -> u8
     ensures { λ r. ⌜ r ≡ hexValue c ⌝ }
 {
@@ -31,8 +31,8 @@ pub fn hex_value(c: u8) -> u8
     }
 }
 
-// The values of all characters. To look a value up here is faster than to work it out, if the table
-// is made once for many characters.
+// The values of all characters, as a table. For many characters a look-up is
+// faster than `hex_value`.
 pub fn hex_values() -> [u8; 256]
     ensures { λ r. ⌜ r ≡ hexValues ⌝ }
 {
@@ -46,7 +46,7 @@ fn hex_digit(n: u16) -> u8
     if n < 10 { b'0' + n as u8 } else { 55 + n as u8 }
 }
 
-// Four digits, high one first.
+// A 16-bit number as four hex digits.
 pub fn hex4(n: u16) -> [u8; 4]
     ensures { λ r. ⌜ r ≡ hex4 n ⌝ }
 {
@@ -58,7 +58,7 @@ pub fn hex4(n: u16) -> [u8; 4]
     ]
 }
 
-// Eight digits, high one first.
+// A 32-bit number as eight hex digits.
 pub fn hex8(n: u32) -> [u8; 8]
     ensures { λ r. ⌜ r ≡ hex8 n ⌝ }
 {
@@ -76,12 +76,13 @@ pub fn hex8(n: u32) -> [u8; 8]
     ]
 }
 
-// The digits of a number from place `start` on, and zeros before them.
+// The digits of a number from index `start` on, with zeros before them.
 pub struct Numeral {
     pub digits: [u8; 20],
     pub start: usize,
 }
 
+// A number in decimal.
 pub fn decimal(n: u64) -> Numeral
     ensures { λ r. ⌜ r ≡ numeral n ⌝ }
 {

@@ -1,4 +1,4 @@
-// The values of the 256 characters as hex digits, 16 where they are none.
+// The values of the 256 characters as hex digits, 16 for any that is not one.
 pub(crate) const VALUES: [u8; 256] = [
     16,
     16,

@@ -28,7 +28,7 @@ use Rattle.lemmas.proofs.Cases.{byCases, and-both}
 use Rattle.tlp.proofs.Frames.{Sound, halves}
 use Rattle.tlp.specs.Fields.{TypedAccess, TypedBody, Typed}
 
--- packets that are typed
+-- packets whose fields fit their types
 module _ (head : Head) (sound : head .sender < 65536) where
   pub typed-request : (t : TranslationRequest) → t .tag .0 < 256 → t .address < 2 ^ 64
       → Typed (record { head = head; body = Tr t })
@@ -73,7 +73,7 @@ module _ (a : ℕ) where
   lower-lt : addressDword12 a < 2 ^ 32
   lower-lt = byCases (needs64Bits a) (λ e. rw e (omega arith)) (λ e. rw e (lit≤ tt))
 
-  -- the upper half is zero in no 64-bit form
+  -- the upper half is never zero in a 64-bit form
   upper-shape : (t : Bool) → t ≡ true → cond (needs64Bits a) (ltb 0 (addressDword8 a) && t) t ≡ true
   upper-shape t q =
       byCases (needs64Bits a)
@@ -83,7 +83,7 @@ module _ (a : ℕ) where
       rw (e, lt-ltb 0 (a / 2 ^ 32) k, q))
       (λ e. rw (e, q))
 
--- ---- the two forms of a request, told by one test
+-- ---- the two forms of a request, distinguished by one test
 
 record Forms (x y : Form) (bodyOf : Frame → ℕ → Body) (shapedAs : Frame → Bool) (loads : ℕ → ℕ) (w : Bool) : Type 0 where
   body : (f : Frame) → bodyIn (cond w x y) f ≡ bodyOf f (cond w (address64In f) (f .dword8))
@@ -115,7 +115,7 @@ pub record Framed (h : Head) (b : Body) : Type 0 where
   pub back : bodyIn (formOf b) (packetFrame h b) ≡ b
   pub long : packetLength (formOf b) (packetFrame h b .dwords) ≡ payloadOffset (formOf b) + payloadLength b
 
--- TR: the word where an address a and No Write stand
+-- TR: the number that holds an address a and No Write
 module _ (a n : ℕ) (z : a % 4096 ≡ 0) (h : n ≤ 1) where
   tr-word : (a / 4096 * 4096 + n ≡ a + n) × ((a + n) / 4096 * 4096 ≡ a) × ((a + n) % 2 ≡ n)
   tr-word = (omega arith, omega arith, omega arith)
@@ -164,17 +164,18 @@ module _ (a n : ℕ) (ha : a % 4096 ≡ 0) (hn : n ≤ 1) (h : a < 2 ^ 64) where
   inv-word : (sized / 4096 * 4096 ≡ a) × (sized / 2048 % 2 ≡ n) × (sized < 2 ^ 64)
   inv-word = (omega arith, omega arith, omega arith)
 
--- a device and what stands in the 16 bits after it
+-- a Device ID and the 16 bits after it
 module _ (d c : ℕ) (hd : d < 65536) (hc : c < 65536) where
   device-word : ((d * 65536 + c) / 65536 ≡ d) × (d * 65536 + c < 2 ^ 32)
   device-word = (omega arith, omega arith)
 
--- PRQ: the word of a page a, an index i and three bits
+-- PRQ: the number that holds a page a, an index i and three bits
 module _ (a i l w r : ℕ) (ha : a % 4096 ≡ 0) (h : a < 2 ^ 64) (hi : i < 512) (hl : l ≤ 1) (hw : w ≤ 1) (hr : r ≤ 1) where
   abbrev paged : ℕ
   paged = a / 4096 * 4096 + i % 512 * 8 + l * 4 + w * 2 + r
 
-  prq-word : (paged / 4096 * 4096 ≡ a) × (paged / 8 % 512 ≡ i) × (paged / 4 % 2 ≡ l) × (paged / 2 % 2 ≡ w) × (paged % 2 ≡ r) × (paged < 2 ^ 64)
+  prq-word : (paged / 4096 * 4096 ≡ a) × (paged / 8 % 512 ≡ i) × (paged / 4 % 2 ≡ l) × (paged / 2 % 2 ≡ w)
+      × (paged % 2 ≡ r) × (paged < 2 ^ 64)
   prq-word =
       let p : a / 4096 * 4096 ≡ a = omega arith in
       let q : i % 512 ≡ i = omega arith in

@@ -1,4 +1,4 @@
--- 4 is given for just the forbidden values, on reading and on writing.
+-- Reading and writing refuse with 4 exactly the forbidden values.
 use mathlib.Core.Path.{_≡_, refl, sym, ap, _∙_}
 use mathlib.Core.Bool.{Bool, true, false, not, cond, _&&_, _||_}
 use mathlib.Core.List.{List}
@@ -26,7 +26,7 @@ use Rattle.tlp.proofs.Fields.{fields}
 use Rattle.tlp.proofs.Refit.{Seven, chosen-by}
 use Rattle.tlp.specs.Forbidden.{above32, statusIn, forbidden, readListed, readingByPhrases, writingByPhrases}
 
--- ---- tests and their opposites
+-- ---- tests and their negations
 
 odd-is : (w : ℕ) → eqb (w % 2) 1 ≡ not (eqb (w % 2) 0)
 odd-is w = byCases (eqb (w % 2) 0) (λ e. rw (e, ne-eqb (w % 2) 1 (omega (arith, eqb-true (w % 2) 0 e)))) (λ e. rw (e, eq-eqb (w % 2) 1 (omega (arith, eqb-false (w % 2) 0 e))))
@@ -76,7 +76,7 @@ mem-long-says false true false = refl
 mem-long-says false false true = refl
 mem-long-says false false false = refl
 
--- AT rules it out, whatever the upper half and the Length are
+-- AT forbids it, for any upper half and Length
 at-says : (l s : Bool) → ((l && false) && s) ≡ false
 at-says true s = refl
 at-says false s = refl
@@ -184,7 +184,7 @@ check-check true false false x e = no-tf (sym e)
 check-check false a true x e = refl
 check-check false a false x e = no-tf (sym e)
 
--- a packet that is not refused with 1, 2 or 3 is refused with 4 exactly where it has one of those values
+-- a packet that is not refused with 1, 2 or 3 is refused with 4 if and only if it has a forbidden value
 pub reads-by-phrases : (b : List ℕ) → reading b ≡ readingByPhrases b
 unfolding reading readForm decodeFrame
 reads-by-phrases b = ap (λ (x : Result Packet). refuse 1 (ltb (length b) 12) (refuse 1 (ltb 144 (length b)) x)) (go (choose (decodeFrame b .byte0) (decodeFrame b .byte7)) refl)
@@ -209,12 +209,13 @@ module _ (p : Packet) (ty : Typed p) where
       let c = rw (whole .chosen) at (chosen-by (f .byte0) (f .byte7)) in
       sym (ap (λ (b : Bool). b && allowed (packetIn m f)) (whole .shape) ∙ ap allowed same) ∙ by-phrases f (whole .sound .at) m (c .0) (c .1)
 
-  -- and so it is on writing
+  -- and the same holds for writing
   pub writes-by-phrases : (load room : ℕ) → writing p load room ≡ writingByPhrases p load room
   unfolding writing
   writes-by-phrases load room = byCases (fieldsInRange p) (λ w. rw (w, allowed-by-phrases w) (ap (λ (x : Result ℕ). check 12 (eqb load (payloadLength (p .body))) x) (turned (forbidden (packetFrame (p .head) (p .body)))))) (λ w. rw w)
     where
       turned : (z : Bool)
-          → check 4 (not z) (checkRoom (payloadOffset (formOf (p .body)) + load) room) ≡ refuse 4 z (checkRoom (payloadOffset (formOf (p .body)) + load) room)
+          → check 4 (not z) (checkRoom (payloadOffset (formOf (p .body)) + load) room)
+          ≡ refuse 4 z (checkRoom (payloadOffset (formOf (p .body)) + load) room)
       turned true = refl
       turned false = refl

@@ -1,4 +1,4 @@
--- A frame and the bytes that spell it, once for all kinds.
+-- A frame and the bytes that encode it, for all kinds.
 use Prim.Native.Nat.{ℕ, zero, suc, _+_, _*_, _/_, _%_, _<_, _≤_, _^_}
 use native.Mathlib.Omega.{arith}
 use native.Mathlib.Nat.{mod-lt, not-suc-le-zero, le-of-suc-le-suc}
@@ -17,7 +17,7 @@ use Rattle.packet.specs.Kinds.{bodyIn, wellFormed}
 use Rattle.packet.specs.Reading.{readForm}
 use Rattle.tlp.specs.Frames.{Bytes}
 
--- each field of a frame within the bits that it has in the bytes
+-- each field of a frame fits the bits that it has in the bytes
 pub record Sound (f : Frame) : Type 0 where
   pub byte0 : f .byte0 < 256
   pub tc : f .tc < 8
@@ -31,7 +31,7 @@ pub record Sound (f : Frame) : Type 0 where
   pub dword12 : f .dword12 < 2 ^ 32
   pub body : f .body < 2 ^ 64
 
--- a frame as far as its first n bytes tell it
+-- a frame as determined by its first n bytes
 abbrev pub upTo : ℕ → Frame → Frame
 upTo n f =
     record {
@@ -48,7 +48,7 @@ upTo n f =
       body = cond (ltb n 24) 0 (f .body);
     }
 
--- what stands after the bytes that hold fields is not read
+-- reading does not depend on what follows the bytes that hold fields
 pub read-upTo : (m : Form) (f : Frame) (n : ℕ) → readForm m (upTo (payloadOffset m) f) n ≡ readForm m f n
 unfolding readForm bodyIn wellFormed
 read-upTo Mrd32 f n = refl
@@ -62,7 +62,7 @@ read-upTo InvCpl f n = refl
 read-upTo PageReq f n = refl
 read-upTo PrgResp f n = refl
 
--- the fields stand in 12, 16 or 24 bytes
+-- the fields take 12, 16 or 24 bytes
 by-fixed : (P : ℕ → Type 0) → P 12 → P 16 → P 24 → (m : Form) → P (payloadOffset m)
 by-fixed P a b c Mrd32 = a
 by-fixed P a b c Mrd64 = b
@@ -77,7 +77,7 @@ by-fixed P a b c PrgResp = b
 
 -- ---- from a frame to bytes and back
 
--- four bytes spell their number
+-- the number in four bytes
 abbrev fromBytes : ℕ → ℕ → ℕ → ℕ → ℕ
 fromBytes a b c d = (a * 256 + b) * 65536 + (c * 256 + d)
 
@@ -119,7 +119,7 @@ ending f d b =
     }
 
 module _ (f : Frame) (s : Sound f) (z : f .marks ≡ 0) where
-  -- what the first 12 bytes tell, whatever follows them
+  -- what the first 12 bytes determine, whatever follows them
   first : (rest : List ℕ) →
       decodeFrame (take 12 (encodeFrame f) ++ rest)
       ≡ ending f (decodeFrame (take 12 (encodeFrame f) ++ rest) .dword12) (decodeFrame (take 12 (encodeFrame f) ++ rest) .body)
@@ -163,7 +163,7 @@ module _ (f : Frame) (s : Sound f) (z : f .marks ≡ 0) where
   pub encodeFrame-back : (m : Form) (pay : List ℕ) → Back (payloadOffset m) pay
   encodeFrame-back m pay = by-fixed (λ (n : ℕ). Back n pay) (back12 pay) (back16 pay) (back24 pay) m
 
--- so many bytes stand before the payload
+-- the number of bytes before the payload
 pub fixed-length : (m : Form) (f : Frame) → length (take (payloadOffset m) (encodeFrame f)) ≡ payloadOffset m
 fixed-length m f = by-fixed (λ (n : ℕ). length (take n (encodeFrame f)) ≡ n) refl refl refl m
 
@@ -246,7 +246,7 @@ upTo-full m b h =
     (λ g. let k : 16 ≤ length b = omega arith in rw (le-ltb (length b) 16 k, le-ltb (length b) 24 g))
     m h
 
--- the four bytes of the number that four bytes spell
+-- four bytes, encoded again from the number that they hold
 module _ (a b c d : ℕ) (ha : a < 256) (hb : b < 256) (hc : c < 256) (hd : d < 256) where
   four-is :
       (fromBytes a b c d / 16777216 % 256 ≡ a)
@@ -273,7 +273,7 @@ two-is x y hx hy =
 pub halves-is : (x y : ℕ) → y < 2 ^ 32 → ((x * 2 ^ 32 + y) / 2 ^ 32 ≡ x) × ((x * 2 ^ 32 + y) % 2 ^ 32 ≡ y)
 halves-is x y h = (omega arith, omega arith)
 
--- bytes whose first DWORD has no ignored bit set, and neither TD nor EP, are spelled by their frame
+-- bytes whose first DWORD has no ignored bit set, and neither TD nor EP, are encoded again from their frame
 module _ (b : List ℕ) (h : Bytes b) (h1 : byte b 1 / 16 % 8 * 16 ≡ byte b 1) (h2 : byte b 2 < 16) where
   encodeFrame-full : encodeFrame (full b) ≡ row 24 (byte b)
   encodeFrame-full =

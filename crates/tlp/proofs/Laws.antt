@@ -1,4 +1,4 @@
--- What the layers above cite of packets, so that none of them opens one.
+-- The laws of packets that the layers above use, so that they need not unfold the definitions.
 use mathlib.Core.Path.{_≡_, refl, ap, _∙_}
 use mathlib.Core.Bool.{Bool, true, false, not}
 use mathlib.Core.List.{List, []}
@@ -32,7 +32,7 @@ use Rattle.tlp.proofs.Frames.{Sound, frame-sound}
 use Rattle.tlp.specs.Fields.{TypedBody, Typed}
 use Rattle.tlp.proofs.RoundTrips.{written-reads, written-payload, written-length, read-writes, told, payload-is}
 
--- ---- a packet that was sent stands at the start of the buffer
+-- ---- a packet that was sent is at the start of the buffer
 
 module _ (p : Packet) (payload out : List ℕ) (n : ℕ) (ty : Typed p) (e : writing p (length payload) (length out) ≡ ok n) where
   abbrev sent : List ℕ
@@ -44,28 +44,28 @@ module _ (p : Packet) (payload out : List ℕ) (n : ℕ) (ty : Typed p) (e : wri
   pub sent-bytes : take n sent ≡ bytesOf p payload
   sent-bytes = rw e (take-at (bytesOf p payload) (drop (length (bytesOf p payload)) out) n long)
 
-  -- what follows it is as it was
+  -- the rest of the buffer is unchanged
   pub sent-rest : drop n sent ≡ drop n out
   sent-rest = rw e (drop-at (bytesOf p payload) (drop (length (bytesOf p payload)) out) n long ∙ ap (λ (k : ℕ). drop k out) long)
 
   pub sent-length : length sent ≡ length out
   sent-length = rw e (length-append (bytesOf p payload) _ ∙ rw (long, length-drop n out) (omega (arith, accepted p (length payload) (length out) n e .fits)))
 
-  -- and it reads as what it is
+  -- and it is read as that packet
   pub sent-reads : reading (take n sent) ≡ ok p
   sent-reads = rw sent-bytes (written-reads p payload (length out) n ty e)
 
   pub sent-payload : payloadIn (take n sent) ≡ payload
   sent-payload = rw sent-bytes (written-payload p payload (length out) n ty e)
 
--- where nothing was sent there is no packet
+-- no bytes are not a packet
 pub nothing-reads : reading [] ≡ refusal 1
 unfolding reading
 nothing-reads = refl
 
 -- ---- a packet that was read
 
--- its fields lie in their types, so that it can be written
+-- its fields fit their types, so that it can be written
 typed-in : (m : Form) (f : Frame) → Sound f → TypedBody (bodyIn m f)
 unfolding bodyIn TypedBody
 typed-in Mrd32 f s = byCases (eqb (f .at) 1) (λ t. rw t (s .byte6, omega (arith, s .dword8))) (λ t. rw t (s .byte6, omega (arith, s .dword8)))
@@ -79,7 +79,7 @@ typed-in InvCpl f s = (omega (arith, s .dword8), s .dword12)
 typed-in PageReq f s = omega (arith, s .dword8, s .dword12)
 typed-in PrgResp f s = omega (arith, s .dword8)
 
--- only a completion is read as one
+-- only a completion form is read as a completion
 from-12 : (m : Form) (f : Frame) (c : Completion) → bodyIn m f ≡ Cpl c → payloadOffset m ≡ 12
 unfolding bodyIn
 from-12 Mrd32 f c q = refl
@@ -107,12 +107,12 @@ module _ (b : List ℕ) (p : Packet) (h : Bytes b) (e : reading b ≡ ok p) wher
         body = rw (← t .whole) (typed-in (t .form) (decodeFrame b) s);
       }
 
-  -- its payload is as long as it says
+  -- its payload has the length that its fields give
   pub read-load : length (payloadIn b) ≡ payloadLength (p .body)
   read-load =
       accepted p (length (payloadIn b)) (length b) (length b) (read-writes b p (length b) h e (omega arith)) .fills
 
-  -- that of a completion begins at byte 12
+  -- the payload of a completion begins at byte 12
   pub completion-payload : (c : Completion) → p .body ≡ Cpl c → payloadIn b ≡ drop 12 b
   completion-payload c q = payload-is b p h e ∙ ap (λ (n : ℕ). drop n b) (from-12 (told b p h e .form) (decodeFrame b) c (ap (λ (x : Packet). x .body) (told b p h e .whole) ∙ q))
 

@@ -1,5 +1,5 @@
--- Bytes under masks: the frame of the masked bytes is the frame of the bytes under the frame
--- of the masks, field by field.
+-- Bytes under masks: the frame of the masked bytes is, field by field, the frame of the bytes
+-- masked by the frame of the masks.
 use Prim.Native.Nat.{ℕ, zero, suc, _+_, _*_, _/_, _%_, _<_, _≤_}
 use native.Mathlib.Omega.{arith}
 use native.Mathlib.Nat.{le-refl, not-suc-le-zero, le-of-suc-le-suc}
@@ -69,7 +69,7 @@ module _ (ms b : List ℕ) (hm : Bytes ms) (hb : Bytes b) where
 
 -- ---- frames
 
--- two frames, bit by bit
+-- the bitwise AND of two frames
 abbrev pub meet : Frame → Frame → Frame
 meet f g =
     record {
@@ -86,7 +86,7 @@ meet f g =
       body = bitAnd (f .body) (g .body);
     }
 
--- a field that is there only where the bytes and the masks reach it
+-- a field that is present only if the bytes and the masks are long enough
 reached : (end n l x y z : ℕ) → (end ≤ n → x ≡ bitAnd y z)
     → cond (ltb n end) 0 (cond (ltb l end) 0 x) ≡ bitAnd (cond (ltb l end) 0 y) (cond (ltb n end) 0 z)
 reached end n l x y z e =
@@ -104,7 +104,8 @@ module _ (ms b : List ℕ) (hm : Bytes ms) (hb : Bytes b) (long : 12 ≤ length 
   at-meet : bitAnd (byte b 2) (byte ms 2) / 4 % 4 ≡ bitAnd (byte b 2 / 4 % 4) (byte ms 2 / 4 % 4)
   at-meet = rw (and-shr (byte b 2) (byte ms 2) 2) (and-mod (byte b 2 / 4) (byte ms 2 / 4) 2)
 
-  words-meet : bitAnd (byte b 2) (byte ms 2) % 4 * 256 + bitAnd (byte b 3) (byte ms 3) ≡ bitAnd (byte b 2 % 4 * 256 + byte b 3) (byte ms 2 % 4 * 256 + byte ms 3)
+  words-meet : bitAnd (byte b 2) (byte ms 2) % 4 * 256 + bitAnd (byte b 3) (byte ms 3)
+      ≡ bitAnd (byte b 2 % 4 * 256 + byte b 3) (byte ms 2 % 4 * 256 + byte ms 3)
   words-meet = rw (and-mod (byte b 2) (byte ms 2) 2) (sym (and-block 8 (byte b 2 % 4) (byte ms 2 % 4) (byte b 3) (byte ms 3) (hb 3) (hm 3)))
 
   pub frame-meet : upTo (length ms) (decodeFrame (masked ms b)) ≡ meet (decodeFrame b) (decodeFrame ms)

@@ -1,4 +1,4 @@
--- The QWORDs of a payload, and the translations in it, lie in 64 bits.
+-- The QWORDs of a payload, and the translations in it, fit 64 bits.
 use mathlib.Core.Path.{_≡_}
 use mathlib.Core.Bool.{true}
 use mathlib.Core.List.{List, [], _∷_}

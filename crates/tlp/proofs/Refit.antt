@@ -1,4 +1,4 @@
--- The frame of a packet that was read is the frame it was read from, with its ignored bits zero.
+-- The frame of a packet that was read is the frame it was read from, with its ignored bits cleared.
 use Prim.Native.Nat.{ℕ, zero, suc, _+_, _*_, _/_, _%_, _<_, _≤_, _^_}
 use native.Mathlib.Omega.{arith}
 use mathlib.Core.Path.{_≡_, refl, sym}
@@ -20,7 +20,7 @@ use Rattle.lemmas.proofs.Cases.{byCases, and-both}
 use Rattle.tlp.proofs.Frames.{Sound, halves-is}
 use Rattle.tlp.proofs.Tidy.{keeping, tidyStatus, tidyTarget, tidy}
 
--- ---- what chose a form
+-- ---- what selects a form
 
 -- byte 7 of a message
 abbrev pub Seven : Form → ℕ → Type 0
@@ -79,7 +79,7 @@ at-is a h e =
     let p : a / 2 * 2 ≡ a = omega arith in
     rw p at (at-half (a / 2) k)
 
--- of an address: its page, its page and bit 0, and all but its bits 1:0
+-- parts of an address: its page, its page and bit 0, and all but its bits 1:0
 module _ (x : ℕ) where
   parts-le : (x / 4096 * 4096 ≤ x) × (x / 4096 * 4096 + x % 2 ≤ x) × (x / 4 * 4 ≤ x)
   parts-le = (omega arith, omega arith, omega arith)
@@ -154,7 +154,7 @@ module _ (f : Frame) (s : Sound f) (z : f .marks ≡ 0) where
   status-lt : f .byte6 / 32 < 8
   status-lt = omega (arith, s .byte6)
 
-  -- TR, in one DWORD or two: m is its form, and a its address as it stands
+  -- TR, with the address in one DWORD or two: m is its form, and a the address field
   tr : (m : Form) (a : ℕ) →
       bodyIn m f ≡ trIn f a →
       cond (needs64Bits (a / 4096 * 4096)) Mrd64 Mrd32 ≡ m →
@@ -170,7 +170,7 @@ module _ (f : Frame) (s : Sound f) (z : f .marks ≡ 0) where
         load = rw (body, load);
       }
 
-  -- MEM, read or written, in one DWORD or two: m is its form, and a its address as it stands
+  -- MEM read or write, with the address in one DWORD or two: m is its form, and a the address field
   mem : (m : Form) (access : Access) (a : ℕ) →
       bodyIn m f ≡ memIn f access a →
       accessForm access (a / 4 * 4) ≡ m →

@@ -1,4 +1,4 @@
--- The round trips: write then read, reading with ignored bits zero, read then write.
+-- The round trips: write then read, read with ignored bits cleared, read then write.
 use Prim.Native.Nat.{ℕ, _+_, _/_, _≤_}
 use native.Mathlib.Omega.{arith}
 use mathlib.Core.Path.{_≡_, refl, sym, ap, _∙_}
@@ -30,21 +30,21 @@ use Rattle.tlp.proofs.Tidy.{mask, read-tidy, tidy-frame, under-0, under
 use Rattle.tlp.proofs.Refit.{chosen-by, Refit, refit}
 use Rattle.lemmas.proofs.Cases.{impossible}
 
--- ---- a refused packet leaves the buffer as it was
+-- ---- a refused packet leaves the buffer unchanged
 
 pub refused-writes-nothing : (p : Packet) (payload out : List ℕ) (k : ℕ)
     → writing p (length payload) (length out) ≡ refusal k
     → bufferAfter (writing p (length payload) (length out)) (bytesOf p payload) out ≡ out
 refused-writes-nothing p payload out k e = rw e
 
--- ---- what is written reads as the packet that it was written from
+-- ---- a written packet is read as the same packet
 
 -- a list of 12 to 144 bytes is read by its frame
 read-by-frame : (b : List ℕ) → 12 ≤ length b → length b ≤ 144 → reading b ≡ readFrame (decodeFrame b) (length b)
 unfolding reading
 read-by-frame b h k = rw (le-ltb (length b) 12 h, le-ltb 144 (length b) k)
 
--- and by the form that it chooses
+-- and by the form that it selects
 read-by-form : (b : List ℕ) (m : Form) (n : ℕ) → choose (byte b 0) (byte b 7) ≡ Listed m
     → readFrame (decodeFrame b) n ≡ readForm m (decodeFrame b) n
 unfolding decodeFrame
@@ -67,13 +67,14 @@ module _ (p : Packet) (payload : List ℕ) (room n : ℕ) (ty : Typed p) (e : wr
   seated : Framed (p .head) (p .body)
   seated = fields (p .head) (passed .tc) (ty .sender) (p .body) (passed .body) (ty .body)
 
-  -- the first fields of what is written are those of its frame
-  upTo-back : upTo (payloadOffset (formOf (p .body))) (decodeFrame (bytesOf p payload)) ≡ upTo (payloadOffset (formOf (p .body))) (packetFrame (p .head) (p .body))
+  -- the first fields of a written packet are those of its frame
+  upTo-back : upTo (payloadOffset (formOf (p .body))) (decodeFrame (bytesOf p payload))
+      ≡ upTo (payloadOffset (formOf (p .body))) (packetFrame (p .head) (p .body))
   unfolding bytesOf
   upTo-back =
       encodeFrame-back (packetFrame (p .head) (p .body)) (seated .sound) (seated .marks) (formOf (p .body)) payload
 
-  -- bytes 0 and 7 choose the form of the packet
+  -- bytes 0 and 7 select the form of the packet
   pub kind-of-written : choose (byte (bytesOf p payload) 0) (byte (bytesOf p payload) 7) ≡ Listed (formOf (p .body))
   unfolding decodeFrame
   kind-of-written =
@@ -110,7 +111,7 @@ module _ (p : Packet) (payload : List ℕ) (room n : ℕ) (ty : Typed p) (e : wr
       let h : 12 ≤ length (bytesOf p payload) = omega (arith, passed .long) in
       rw (le-ltb (length (bytesOf p payload)) 12 h, kind-of-written) (drop-at (take (payloadOffset m) (encodeFrame f)) payload (payloadOffset m) (fixed-length m f))
 
--- ---- reading looks at no ignored bit
+-- ---- reading does not depend on ignored bits
 
 module _ (b : List ℕ) (h : Bytes b) where
   normal-frame : (m : Form) (t : Bool) → t ≡ eqb (decodeFrame b .at) 1
@@ -136,9 +137,9 @@ module _ (b : List ℕ) (h : Bytes b) where
   unfolding normal
   normal-reads = normal-as (choose (byte b 0) (byte b 7)) refl
 
--- ---- what is read writes as the bytes that it was read from, but for bits without a name, which are zero
+-- ---- a packet that was read is written as the same bytes, with its unnamed bits cleared
 
--- a packet that is read passed each test
+-- a packet that was read has passed each test
 pub record Taken (b : List ℕ) (p : Packet) : Type 0 where
   pub form : Form
   pub low : 12 ≤ length b
@@ -197,7 +198,7 @@ module _ (b : List ℕ) (p : Packet) (h : Bytes b) (e : reading b ≡ ok p) wher
   unfolding payloadIn
   payload-is = rw (le-ltb (length b) 12 (told .low), told .chosen)
 
-  -- the fixed bytes and the payload make up the packet
+  -- the fixed bytes and the payload are the whole packet
   sum-is : payloadOffset (told .form) + payloadLength (bodyIn (told .form) (decodeFrame b)) ≡ length b
   sum-is = refitted .load ∙ sym (told .long)
 

@@ -1,4 +1,4 @@
--- A frame with its ignored bits zero.
+-- A frame with its ignored bits cleared.
 use Prim.Native.Nat.{ℕ, zero, suc, _+_, _-_, _*_, _/_, _%_, _^_, _<_, _≤_}
 use native.Mathlib.Omega.{arith}
 use native.Mathlib.Nat.{div-add-mod', mod-lt, mod-eq-of-lt}
@@ -25,11 +25,11 @@ use Rattle.tlp.proofs.Masks.{masked-at, masked-le, meet, frame-meet}
 
 -- ---- one mask
 
--- all ones, as wide as the number
+-- a mask of all ones, as wide as the number
 whole : (k x : ℕ) → x < 2 ^ k → bitAnd x (2 ^ k - 1) ≡ x
 whole k x h = and-mask x k ∙ mod-eq-of-lt h
 
--- j ones above bit k, and l ones below it
+-- a mask of j ones from bit k on, and l ones at the bottom
 parted : (j k l x : ℕ) → 2 ^ l - 1 < 2 ^ k
     → bitAnd x ((2 ^ j - 1) * 2 ^ k + (2 ^ l - 1)) ≡ x / 2 ^ k % 2 ^ j * 2 ^ k + x % 2 ^ k % 2 ^ l
 parted j k l x h =
@@ -37,7 +37,7 @@ parted j k l x h =
     ∙ and-block k (x / 2 ^ k) (2 ^ j - 1) (x % 2 ^ k) (2 ^ l - 1) (mod-lt x (pow-pos k)) h
     ∙ ap₂ (λ (y z : ℕ). y * 2 ^ k + z) (and-mask (x / 2 ^ k) j) (and-mask (x % 2 ^ k) l)
 
--- ---- the fields that a kind has, of a frame
+-- ---- the fields of a frame that a kind has
 
 abbrev pub keeping : Frame → ℕ → ℕ → ℕ → ℕ → ℕ → ℕ → Frame
 keeping f at dwords byte6 dword8 dword12 body =
@@ -155,7 +155,7 @@ module _ (f : Frame) (s : Sound f) where
 
 -- ---- the masks of a form
 
--- every one a byte
+-- every element is a byte
 below : List ℕ → Bool
 below [] = true
 below (x ∷ xs) = ltb x 256 && below xs
@@ -166,7 +166,8 @@ bytes-below [] e i = lit≤ tt
 bytes-below (x ∷ xs) e zero = ltb-true x 256 (and-both (ltb x 256) (below xs) e .0)
 bytes-below (x ∷ xs) e (suc i) = bytes-below xs (and-both (ltb x 256) (below xs) e .1) i
 
--- what every form's masks have: n bytes; TC alone in byte 1, no bit of 5:4 in byte 2, bytes 0 and 7 whole
+-- what the masks of every form have in common: n bytes; only TC in byte 1, no bit of 5:4
+-- in byte 2, all of bytes 0 and 7
 pub record Mask (n : ℕ) (ms : List ℕ) : Type 0 where
   pub bytes : Bytes ms
   pub long : length ms ≡ n
@@ -196,7 +197,7 @@ judge n ms e =
       byte7 = eqb-true (byte ms 7) 0xFF (a .1);
     }
 
--- what holds of each form's masks computes
+-- proved for each form by computation
 pub mask : (m : Form) (tr : Bool) → Mask (payloadOffset m) (maskOf m tr)
 unfolding maskOf below
 mask Mrd32 true = judge 12 (maskOf Mrd32 true) refl
@@ -212,7 +213,7 @@ mask InvCpl t = judge 16 (maskOf InvCpl t) refl
 mask PageReq t = judge 16 (maskOf PageReq t) refl
 mask PrgResp t = judge 16 (maskOf PrgResp t) refl
 
--- ---- what a mask clears is ignored on reading
+-- ---- the bits that a mask clears are ignored on reading
 
 -- the address of a TR and of a MEM, and the fields of the other kinds
 module _ (x : ℕ) where
@@ -253,7 +254,7 @@ module _ (u x : ℕ) where
   long-mem-kept : (u * 2 ^ 32 + x / 4 * 4) / 4 * 4 ≡ (u * 2 ^ 32 + x) / 4 * 4
   long-mem-kept = omega arith
 
--- a frame with its ignored bits zero is read as the frame is
+-- a frame with its ignored bits cleared is read as the frame itself
 module _ (f : Frame) (n : ℕ) where
   pub read-tidy : (m : Form) → readForm m (tidy m (eqb (f .at) 1) f) n ≡ readForm m f n
   unfolding readForm tidy bodyIn wellFormed
@@ -303,7 +304,7 @@ module _ (b : List ℕ) (h : Bytes b) (m : Form) (t : Bool) where
   under-at : (i : ℕ) → i < 12 → byte under i ≡ bitAnd (byte b i) (byte (maskOf m t) i)
   under-at i k = let l = mask-long in let g : i < length (maskOf m t) = omega arith in masked-at (maskOf m t) b i g
 
-  -- bytes 0 and 7 choose the same form
+  -- bytes 0 and 7 select the same form
   pub under-0 : byte under 0 ≡ byte b 0
   under-0 = under-at 0 (lit≤ tt) ∙ ap (bitAnd (byte b 0)) (mask m t .byte0) ∙ whole 8 (byte b 0) (h 0)
 

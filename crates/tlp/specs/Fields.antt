@@ -10,7 +10,7 @@ abbrev pub TypedAccess : Access → Type 0
 TypedAccess (Read tag) = tag .0 < 256
 TypedAccess Write = Unit {0}
 
--- those of fields that fill their bits: the rest are asked of a packet when it is written
+-- the bounds of fields that fill their types; the other bounds are tested when a packet is written
 unfoldable pub TypedBody : Body → Type 0
 TypedBody (Tr t) = (t .tag .0 < 256) × (t .address < 2 ^ 64)
 TypedBody (Mem m) = TypedAccess (m .access) × (m .address < 2 ^ 64)

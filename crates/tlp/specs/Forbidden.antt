@@ -1,4 +1,4 @@
--- The forbidden values once more, phrase by phrase as the list has them and apart from the kinds' own definitions. 01, "Forbidden values".
+-- The forbidden values once more, phrase by phrase as in the list, and independent of the definitions of the kinds. 01, "Forbidden values".
 use mathlib.Core.Bool.{Bool, not, cond, _&&_, _||_}
 use mathlib.Core.List.{List}
 use Prim.Native.Nat.{ℕ, _+_, _/_, _%_}
@@ -14,7 +14,7 @@ use Rattle.packet.specs.Forms.{choose, packetLength, payloadOffset}
 use Rattle.packet.specs.Kinds.{packetIn, fieldsInRange, payloadLength, formOf, packetFrame}
 use Rattle.packet.specs.Writing.{checkRoom}
 
--- ---- the kinds, told by byte 0, byte 7 and AT
+-- ---- the kinds, determined by byte 0, byte 7 and AT
 
 abbrev pub isReadType : Frame → Bool
 isReadType f = eqb (f .byte0) 0x00 || eqb (f .byte0) 0x20
@@ -43,7 +43,7 @@ isInv f = eqb (f .byte0) 0x72
 abbrev pub isPage : Frame → Bool
 isPage f = eqb (f .byte0) 0x30 || (eqb (f .byte0) 0x32 && eqb (f .byte7) 0x05)
 
--- Length 0 means 1024, so that it is above 32 too
+-- Length 0 means 1024, so it is above 32 too
 abbrev pub above32 : ℕ → Bool
 above32 dwords = eqb dwords 0 || ltb 32 dwords
 
@@ -64,7 +64,7 @@ trLength f = isTr f && (eqb (f .dwords % 2) 1 || above32 (f .dwords))
 abbrev pub lengthAbove32 : Frame → Bool
 lengthAbove32 f = (isMem f || hasData f) && above32 (f .dwords)
 
--- byte 7 of a message is its code: another there is number 2
+-- byte 7 of a message is its code: any other value is refused with 2
 abbrev pub otherByte7 : Frame → Bool
 otherByte7 f =
     (isTr f && not (eqb (f .byte7) 0xFF)) || (isMem f && not (eqb (f .byte7) (cond (eqb (f .dwords) 1) 0x0F 0xFF)))
@@ -119,7 +119,7 @@ readingByPhrases b =
     (refuse 1 (ltb 144 (length b))
     (readListed (choose (f .byte0) (f .byte7)) f (length b)))
 
--- writing with that list, looked for in the frame that would be sent: 12 as it is, then 4 by the phrases, then 17
+-- writing with that list, applied to the frame that would be sent: 12 as it is, then 4 by the phrases, then 17
 abbrev pub writingByPhrases : Packet → ℕ → ℕ → Result ℕ
 writingByPhrases p load room =
     check 12 (fieldsInRange p)

@@ -1,4 +1,4 @@
--- What a list of bytes is. Serves 01, "The seven packets".
+-- Lists of bytes. Serves 01, "The seven packets".
 use Prim.Native.Nat.{ℕ, _<_}
 use mathlib.Core.List.{List}
 use Rattle.packet.specs.Frames.{byte}

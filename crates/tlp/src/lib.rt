@@ -1,5 +1,5 @@
-// The packet layer, as the Function sees it: what is below stands in `ranges`, `packet`, `reader` and
-// `writer`, and its laws in proofs/.
+// The packet layer as the Function uses it. The code is in `ranges`, `packet`, `reader` and
+// `writer`; the laws are in proofs/.
 ghost use mathlib.Core.Path.{_≡_};
 ghost use Rattle.tlp.specs.Translations.{translationAt};
 pub use packet::Access;

@@ -1,4 +1,4 @@
--- What a completion puts into the cache.
+-- What a completion stores in the cache.
 use mathlib.Core.Path.{_≡_, refl}
 use mathlib.Core.Bool.{true}
 use mathlib.Core.List.{List}
@@ -28,7 +28,7 @@ use Rattle.translations.specs.Fills.{allowsAccess, entryOf, regionIndex,
 abbrev pub Inside : Range → ℕ → Type 0
 Inside range a = (range .first ≤ a) × (a ≤ range .last)
 
--- An entry that a completion with the payload brings for its request: of a unit of the range, and just what the
+-- An entry that a completion with this payload brings for its request: its unit is in the range, and it is what the
 -- translation over that unit gives.
 pub record Brought (q : PendingTranslation) (load : List ℕ) (x : Entry) : Type 0 where
   pub unit : ℕ
@@ -37,7 +37,8 @@ pub record Brought (q : PendingTranslation) (load : List ℕ) (x : Entry) : Type
   pub inside : Inside (translationRange q) (x .unit)
   pub word : ℕ
   pub carried : word < length load / 8
-  pub over : receivedCount q + word ≡ regionIndex (translationRange q .first) (exponentOr0 (commonSize q load)) (x .unit)
+  pub over : receivedCount q + word
+      ≡ regionIndex (translationRange q .first) (exponentOr0 (commonSize q load)) (x .unit)
   pub grants : allowsAccess (translationAt load word) ≡ true
   pub given : x ≡ entryOf (translationAt load word) (exponentOr0 (commonSize q load)) (x .unit)
 
@@ -48,7 +49,7 @@ module _ (q : PendingTranslation) (load : List ℕ) where
   abbrev first : ℕ
   first = translationRange q .first
 
-  -- what is kept by each fill that the completion brings and by each deletion is kept by the completion
+  -- a property that each fill of the completion and each deletion preserve is preserved by the completion
   pub applied-keeps : (P : Cache → Type 0) (c : Cache) → P c
       → ((x : Entry) (d : Cache) → Brought q load x → P d → P (filledWith x d))
       → ((unit : ℕ) (d : Cache) → Inside (translationRange q) unit → P d → P (unitDropped unit d))
@@ -86,9 +87,10 @@ module _ (q : PendingTranslation) (load : List ℕ) where
   applied-sound c s =
       applied-keeps SoundCache c s (λ x d b k. laws .fill-sound x d k) (λ unit d b k. laws .drop-sound unit d k)
 
-  -- each slot holds what it held, or nothing, or what the completion brought
+  -- each slot is unchanged, or free, or holds an entry that the completion brought
   pub applied-entry : (c : Cache) → SoundCache c → (i : ℕ)
-      → (entryAt (applied q load c) i ≡ entryAt c i) ⊎ ((entryAt (applied q load c) i ≡ noEntry) ⊎ Brought q load (entryAt (applied q load c) i))
+      → (entryAt (applied q load c) i ≡ entryAt c i)
+      ⊎ ((entryAt (applied q load c) i ≡ noEntry) ⊎ Brought q load (entryAt (applied q load c) i))
   applied-entry c s i =
       applied-keeps (λ d. SoundCache d × From (entryAt d i)) c (s, inl refl)
       (λ x d b k. (laws .fill-sound x d (k .0), ⊎-elim (λ same. rw same (k .1)) (λ new. inr (inr (rw new b))) (laws .fill-entry x d (k .0) i)))
@@ -97,7 +99,7 @@ module _ (q : PendingTranslation) (load : List ℕ) where
       From : Entry → Type 0
       From x = (x ≡ entryAt c i) ⊎ ((x ≡ noEntry) ⊎ Brought q load x)
 
-  -- a unit outside the range gets no entry: it keeps its own, or loses it
+  -- a unit outside the range gets no new entry: it keeps its own or loses it
   pub applied-outside : (c : Cache) → SoundCache c → (unit : ℕ) → (Inside (translationRange q) unit → ⊥)
       → (found (applied q load c) unit ≡ found c unit) ⊎ (found (applied q load c) unit ≡ Miss)
   applied-outside c s unit outside =

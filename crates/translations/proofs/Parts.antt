@@ -1,4 +1,4 @@
--- What it takes for a completion to be a first packet of two, a last one, or the only one off the boundary.
+-- What is known of a completion that is the first of two, the last, or the only one off the boundary.
 use mathlib.Core.Path.{_≡_, refl, sym, _∙_}
 use mathlib.Core.Bool.{Bool, true, false, cond}
 use mathlib.Core.List.{List}
@@ -35,7 +35,7 @@ misfit-off : Misfit ≡ OffBoundary → ⊥
 misfit-off e = impossible cc
 
 module _ (rcb : Rcb) (most count lower bytes : ℕ) where
-  -- whether a packet is the only one is told by its Byte Count
+  -- Byte Count decides whether a packet is the only one
   first-part : (x : Part) → (Misfit ≡ x → ⊥) → firstPart rcb most count lower bytes ≡ x
       → (leb bytes count ≡ true) × (cond (eqb count bytes) (cond (onBoundary rcb (count + lower)) Last OffBoundary) (checkFit (onBoundary rcb (bytes + lower)) First) ≡ x)
   unfolding firstPart
@@ -72,13 +72,13 @@ module _ (q : PendingTranslation) (rcb : Rcb) (count lower bytes : ℕ) where
   unfolding partOf
   part-of x h e = fitted (eqb (bytes % 8) 0) _ x h e .1
 
-  -- a last packet, and the only one, has all of its Byte Count
+  -- a last packet, and an only one, has as many bytes as its Byte Count
   part-ends : (x : Part) → (Misfit ≡ x → ⊥) → (First ≡ x → ⊥) → partOf q rcb count lower bytes ≡ x → count ≡ bytes
   part-ends x h g e =
       let p = part-of x h e in
       byCases (eqb (q .due) 0) (λ u. only rcb _ count lower bytes x h g (rw u at p)) (λ u. second-part (q .due) count lower bytes x h (rw u at p) .1)
 
-  -- a first packet of two has less, and nothing came before it
+  -- the first of two packets has fewer, and nothing came before it
   part-begins : partOf q rcb count lower bytes ≡ First → (q .due ≡ 0) × ((bytes ≤ count) × (count ≡ bytes → ⊥))
   part-begins e =
       let p = part-of First misfit-first e in
@@ -152,7 +152,7 @@ one-size q load f some = byCases (eqb (q .due) 0) (λ u. rw u refl) (λ u. rw u 
         byCases (test 0) (λ t. sized (translationAt load 0 .size) (q .size) (and-both (sizeIs (translationAt load 0 .size) (q .size)) _ t .0))
         (λ t. absurd (never-both _ every (all-stop test 0 (length load / 8) some t)))
 
--- how many translations came in an earlier packet is told by its bytes
+-- the number of translations in an earlier packet follows from its bytes
 pub came-by : (q : PendingTranslation) → receivedCount q ≡ (q .whole - q .due) / 8
 unfolding receivedCount
 came-by q = refl

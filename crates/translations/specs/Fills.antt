@@ -16,12 +16,12 @@ use Rattle.tags.specs.declared.PendingTranslation.{PendingTranslation}
 use Rattle.tags.specs.Tags.{translationRange}
 use Rattle.translations.specs.Fits.{commonSize, exponentOr0, receivedCount}
 
--- R or W set
+-- is R or W set?
 abbrev pub allowsAccess : Translation → Bool
 allowsAccess x = x .r || x .w
 
--- the entry of a unit: the place that the unit has in its region, in the translation's region, but 0
--- under U; R, W, N and U as given
+-- the entry of a unit: its address has the same offset in the translated region, or is 0 if U
+-- is set; R, W, N and U as given
 abbrev pub entryOf : Translation → ℕ → ℕ → Entry
 entryOf x e unit =
     record {
@@ -34,15 +34,15 @@ entryOf x e unit =
       to = cond (x .u) 0 (relocated (x .base) unit e);
     }
 
--- R or W set fills the unit; both clear delete its entry
+-- if R or W is set the unit's entry is stored; if both are clear it is deleted
 unfoldable pub unitUpdated : Translation → ℕ → ℕ → Cache → Cache
 unitUpdated x e unit c = cond (allowsAccess x) (filledWith (entryOf x e unit) c) (unitDropped unit c)
 
--- which translation of the request covers a unit, counted from region 0, which holds the first unit
+-- the index of the translation that covers a unit; region 0 holds the first unit of the request
 abbrev pub regionIndex : ℕ → ℕ → ℕ → ℕ
 regionIndex first e unit = unit / 2 ^ e - first / 2 ^ e
 
--- the unit, where this packet covers it: its translations come after those before
+-- the unit is updated if this packet covers it; `before` translations came in an earlier packet
 unfoldable pub updatedIfCovered : ℕ → ℕ → ℕ → ℕ → List ℕ → Cache → Cache
 updatedIfCovered first e before unit payload c =
     cond (ltb (regionIndex first e unit) before) c
@@ -50,17 +50,19 @@ updatedIfCovered first e before unit payload c =
     (unitUpdated (translationAt payload (regionIndex first e unit - before)) e unit c)
     c)
 
--- unit j of the range; a range that the end of the address space cuts short has fewer
+-- unit j of the range is updated; a range that is cut off at the top of the address space has fewer units
 unfoldable pub updatedAt : Range → ℕ → ℕ → ℕ → List ℕ → ℕ → Cache → Cache
 updatedAt range stu e before payload j c =
     cond (ltb (range .last) (range .first + j * unitBytes stu)) c
     (updatedIfCovered (range .first) e before (range .first + j * unitBytes stu) payload c)
 
--- each unit of the range, ascending
+-- each unit of the range is updated, in ascending order
 unfoldable pub applied : PendingTranslation → List ℕ → Cache → Cache
-applied t payload c = iterate (updatedAt (translationRange t) (t .stu) (exponentOr0 (commonSize t payload)) (receivedCount t) payload) (unitCount (t .further)) c
+applied t payload c =
+    iterate (updatedAt (translationRange t) (t .stu) (exponentOr0 (commonSize t payload)) (receivedCount t) payload)
+    (unitCount (t .further)) c
 
--- what is remembered after a first packet of two
+-- the request after the first of two packets
 abbrev pub afterFirst : PendingTranslation → ℕ → List ℕ → PendingTranslation
 afterFirst t count payload =
     record {

@@ -1,5 +1,4 @@
-// A completion with data for a Translation Request: what it is to its request, and what it does to
-// the cache.
+// Completions with data for a Translation Request: classification, and updates of the cache.
 use atc::Cache;
 use atc::Entry;
 use ranges::Range;
@@ -20,8 +19,8 @@ pub enum Rcb {
     B128,
 }
 
-// What a completion is to its request, in its own words: it does not fit; it is the only one and
-// ends off the boundary; it is the first of two; it is the last.
+// The class of a completion: it does not fit its request; it is the only packet and ends off the
+// boundary; it is the first of two; or it is the last.
 pub enum Part {
     Misfit,
     OffBoundary,
@@ -29,6 +28,7 @@ pub enum Part {
     Last,
 }
 
+// The Read Completion Boundary in bytes.
 pub fn boundary_bytes(rcb: Rcb) -> u16
     ensures { λ r. ⌜ r ≡ boundary rcb ⌝ }
 {
@@ -89,7 +89,7 @@ fn second_part(due: u16, count: u16, lower: u8, bytes: usize) -> Part
     Part::Last
 }
 
-// What it is by its counts and Lower Address, its translations unread.
+// The class by Byte Count, Lower Address and length, without the translations.
 fn part_of(t: PendingTranslation, rcb: Rcb, count: u16, lower: u8, bytes: usize) -> Part
     ensures { λ r. ⌜ r ≡ partOf t rcb count lower bytes ⌝ }
 {
@@ -104,7 +104,7 @@ fn part_of(t: PendingTranslation, rcb: Rcb, count: u16, lower: u8, bytes: usize)
     }
 }
 
-// The size of all translations of a request is that of the first.
+// The size that all translations of a request must have: that of the first.
 fn common_size(t: PendingTranslation, payload: &[u8]) -> Size
     ensures { λ r. ⌜ r ≡ commonSize t (now (payload .entry)) ⌝ }
 {
@@ -133,7 +133,7 @@ fn size_is(size: Size, e: u32) -> bool
     }
 }
 
-// Does region k of 2^e bytes, region 0 holding the first byte, begin in the range?
+// Does region k of 2^e bytes begin in the range? Region 0 holds the first byte of the range.
 fn begins_in(range: Range, e: u32, k: u64) -> bool
     ensures { λ r. ⌜ r ≡ beginsIn range e k ⌝ }
 {
@@ -145,7 +145,7 @@ fn begins_in(range: Range, e: u32, k: u64) -> bool
     k <= last - first
 }
 
-// How many translations came in a first packet.
+// How many translations came in the first of two packets.
 fn received_count(t: PendingTranslation) -> u64
     ensures { λ r. ⌜ (r ≡ receivedCount t) × (r ≤ 8191) ⌝ }
 {
@@ -166,7 +166,7 @@ fn translation_fits(range: Range, e: u32, k: u64, size: Size) -> bool
     }
 }
 
-// Translation i of the payload is the one after the `before` that came already.
+// Do all translations of the payload fit? `before` translations came in an earlier packet.
 fn all_fit(range: Range, e: u32, before: u64, payload: &[u8]) -> bool
     requires { ⌜ before ≤ 8191 ⌝ }
     ensures { λ r. ⌜ r ≡ allFit range e before (now (payload .entry)) ⌝ }
@@ -199,7 +199,7 @@ fn size_fits(t: PendingTranslation, size: Size, payload: &[u8]) -> bool
     }
 }
 
-// All of one size, the unit or larger, and every region begins in the range.
+// Do the translations fit: one size, not below the unit, and every region begins in the range?
 fn translations_fit(t: PendingTranslation, payload: &[u8]) -> bool
     ensures { λ r. ⌜ r ≡ translationsFit t (now (payload .entry)) ⌝ }
 {
@@ -217,7 +217,7 @@ fn if_fits(t: PendingTranslation, payload: &[u8], part: Part) -> Part
     }
 }
 
-// What a completion is to its request, translations and all. Nothing is changed.
+// Classifies a completion, with its translations. Nothing changes.
 pub fn classify(t: PendingTranslation, rcb: Rcb, count: u16, lower: u8, payload: &[u8]) -> Part
     ensures { λ r. ⌜ r ≡ classified t rcb count lower (now (payload .entry)) ⌝ }
 {
@@ -240,7 +240,7 @@ fn translated_address(x: Translation, e: u32, unit: u64) -> u64
     }
 }
 
-// The entry that a translation of 2^e bytes makes for a unit.
+// The entry of a unit under a translation of 2^e bytes.
 fn entry_of(x: Translation, e: u32, unit: u64) -> Entry
     ensures { λ r. ⌜ r ≡ entryOf x e unit ⌝ }
 {
@@ -255,14 +255,14 @@ fn entry_of(x: Translation, e: u32, unit: u64) -> Entry
     }
 }
 
-// R or W set.
+// Is R or W set?
 fn allows_access(x: Translation) -> bool
     ensures { λ r. ⌜ r ≡ allowsAccess x ⌝ }
 {
     if x.r { true } else { x.w }
 }
 
-// A unit is filled, or loses its entry where the translation grants nothing.
+// Stores the entry of a unit, or deletes it if the translation allows no access.
 fn update_unit(c: Cache, x: Translation, e: u32, unit: u64) -> Cache
     ensures { λ r. ⌜ r ≡ unitUpdated x e unit c ⌝ }
 {
@@ -274,7 +274,7 @@ fn update_unit(c: Cache, x: Translation, e: u32, unit: u64) -> Cache
     }
 }
 
-// A unit of the range that begins at `first`, where one of the payload's translations covers it.
+// Updates a unit if one of the payload's translations covers it. `first` is the start of the range.
 fn update_if_covered(c: Cache, first: u64, e: u32, before: u64, unit: u64, payload: &[u8]) -> Cache
     requires { ⌜ first ≤ unit ⌝ }
     ensures { λ r. ⌜ r ≡ updatedIfCovered first e before unit (now (payload .entry)) c ⌝ }
@@ -291,7 +291,7 @@ fn update_if_covered(c: Cache, first: u64, e: u32, before: u64, unit: u64, paylo
     }
 }
 
-// Unit j of a range, where the range has that many.
+// Updates unit j of a range, if the range has that many.
 fn update_at(c: Cache, range: Range, stu: u8, e: u32, before: u64, j: u64, payload: &[u8]) -> Cache
     requires { ⌜ j ≤ 15 ⌝ }
     ensures { λ r. ⌜ r ≡ updatedAt range stu e before (now (payload .entry)) j c ⌝ }
@@ -307,7 +307,7 @@ fn update_at(c: Cache, range: Range, stu: u8, e: u32, before: u64, j: u64, paylo
     update_if_covered(c, range.first, e, before, unit, payload)
 }
 
-// Every unit of the request's range that the payload covers, ascending.
+// Updates every unit of the request's range that the payload covers, in ascending order.
 pub fn apply(c: Cache, t: PendingTranslation, payload: &[u8]) -> Cache
     ensures { λ r. ⌜ r ≡ applied t (now (payload .entry)) c ⌝ }
 {
@@ -326,7 +326,7 @@ pub fn apply(c: Cache, t: PendingTranslation, payload: &[u8]) -> Cache
     next
 }
 
-// The request after a first packet of two.
+// The request after the first of two packets.
 pub fn after_first(mut t: PendingTranslation, count: u16, payload: &[u8]) -> PendingTranslation
     ensures { λ r. ⌜ r ≡ afterFirst t count (now (payload .entry)) ⌝ }
 {

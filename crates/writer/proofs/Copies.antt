@@ -1,4 +1,4 @@
--- Two copies, one after the other, are one list at the start of the other.
+-- Two copies, one after the other, write the concatenated list to the start of the buffer.
 use mathlib.Core.Path.{_≡_, ap, _∙_}
 use mathlib.Core.List.{List, [], _++_, append-nil, append-assoc}
 use Prim.Native.Nat.{ℕ, _+_, _-_, _≤_}
@@ -21,6 +21,6 @@ two-copies h p d o l eo el =
     let e : drop (length o - length h) (drop (length h) o) ≡ [] = drop-of-length-le (drop (length h) o) {i = length o - length h} (rw length-drop (le-refl _)) in
     simp (t, l′, e, append-nil, length-append, append-assoc)
 
--- The fields before the payload, cut from the 24 bytes of a frame.
+-- The first n of the 24 bytes of a frame.
 pub front-length : (n : ℕ) (l : List ℕ) (f : Frame) → l ≡ encodeFrame f → n ≤ 24 → length (take n l) ≡ n
 front-length n l f e h = length-take-le n l (rw e h)

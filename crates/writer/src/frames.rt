@@ -1,4 +1,4 @@
-// The form and the frame of each kind.
+// The form and the frame of a packet, kind by kind.
 use packet::Access;
 use packet::Body;
 use packet::Completion;
@@ -65,6 +65,7 @@ fn outcome_form(o: Outcome) -> Form
     }
 }
 
+// The form of a packet; 64-bit only if the address needs it.
 pub(crate) fn form_of(body: Body) -> Form
     ensures { λ r. ⌜ r ≡ formOf body ⌝ }
 {
@@ -283,6 +284,7 @@ fn prs(h: Head, s: PrgResponse) -> Frame
     }
 }
 
+// The frame of a packet.
 pub(crate) fn packet_frame(h: Head, body: Body) -> Frame
     ensures { λ r. ⌜ r ≡ packetFrame h body ⌝ }
 {

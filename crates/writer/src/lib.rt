@@ -1,5 +1,5 @@
-// Writing a packet. The order of the refusals stands here; fields and frames are in `limits` and
-// `frames`.
+// Writing a packet. The order of the refusals is here; fields and frames are in
+// `limits` and `frames`.
 mod frames;
 mod limits;
 
@@ -20,7 +20,7 @@ ghost use Rattle.packet.specs.Forms.{payloadOffset};
 ghost use Rattle.packet.specs.Kinds.{formOf};
 ghost use Rattle.packet.specs.Writing.{writeResult, bytesOf, checkRoom, writing, bufferAfter};
 
-// The 24 bytes of a frame.
+// Encodes a frame as 24 bytes.
 fn encode_frame(f: Frame) -> [u8; 24]
     ensures { λ r. ⌜ r ≡ encodeFrame f ⌝ }
 {
@@ -52,7 +52,7 @@ fn encode_frame(f: Frame) -> [u8; 24]
     ]
 }
 
-// A front and a payload at the start of out.
+// Copies a front and a payload to the start of `out`.
 fn lay(front: &[u8], payload: &[u8], out: &mut [u8])
     requires { ⌜ length (now front) + length (now payload) ≤ length (now out) ⌝ }
     ensures { λ _. ⌜ now (out .exit) ≡ (now (front .entry) ++ now (payload .entry)) ++ drop (length (now (front .entry) ++ now (payload .entry))) (now (out .entry)) ⌝ }
@@ -62,7 +62,7 @@ fn lay(front: &[u8], payload: &[u8], out: &mut [u8])
     bytes::copy(payload, &mut out[n..]);
 }
 
-// The packet at the start of out.
+// Writes the packet to the start of `out`.
 fn put(p: Packet, payload: &[u8], out: &mut [u8])
     requires { ⌜ payloadOffset (formOf (p .body)) + length (now payload) ≤ length (now out) ⌝ }
     ensures { λ _. ⌜ now (out .exit) ≡ bytesOf p (now (payload .entry)) ++ drop (length (bytesOf p (now (payload .entry)))) (now (out .entry)) ⌝ }
@@ -84,7 +84,7 @@ fn check_room(n: usize, room: usize) -> Writing
     }
 }
 
-// What writing answers, for a payload of load bytes and a buffer of room bytes.
+// The result of writing, for a payload of `load` bytes and a buffer of `room` bytes.
 fn answer(p: Packet, load: usize, room: usize) -> Writing
     ensures { λ r. ⌜ writeResult r ≡ writing p load room ⌝ }
 {
@@ -105,6 +105,7 @@ fn answer(p: Packet, load: usize, room: usize) -> Writing
     Writing::Refused(Refusal::BadArgument)
 }
 
+// Writes a packet to the start of `out`. A refused packet leaves `out` unchanged.
 pub fn write_packet(p: Packet, payload: &[u8], out: &mut [u8]) -> Writing
     ensures answer { λ r. ⌜ writeResult r ≡ writing p (length (now (payload .entry))) (length (now (out .entry))) ⌝ }
     ensures buffer { λ _. ⌜ now (out .exit) ≡ bufferAfter (writing p (length (now (payload .entry))) (length (now (out .entry)))) (bytesOf p (now (payload .entry))) (now (out .entry)) ⌝ }

@@ -1,4 +1,4 @@
-// Whether each field lies within its bits, and how long a payload the packet carries.
+// Tests whether each field fits its bits, and computes the payload length of a packet.
 use packet::Access;
 use packet::Body;
 use packet::Outcome;
@@ -44,6 +44,7 @@ fn is_body_in_range(body: Body) -> bool
     }
 }
 
+// Does each field fit its bits?
 pub(crate) fn are_fields_in_range(tc: u8, body: Body) -> bool
     ensures { λ r. ⌜ r ≡ (ltb tc 8 && bodyInRange body) ⌝ }
 {
@@ -68,7 +69,7 @@ fn outcome_payload_length(o: Outcome) -> usize
     }
 }
 
-// The bytes of payload that the packet must be given.
+// The payload length that the packet must be given.
 pub(crate) fn payload_length(body: Body) -> usize
     ensures { λ r. ⌜ (r ≡ payloadLength body) × (r ≤ 262140) ⌝ }
 {

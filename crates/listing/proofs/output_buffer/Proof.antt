@@ -4,7 +4,7 @@ use lib.ListN.{length-replicate}
 use Rattle.listing.proofs.output_buffer.Statement.{statement}
 use Rattle.listing.proofs.output_buffer.Tie as tie
 
--- by the law: to count so many elements one after the other is more than the checker does
+-- by a law of lists: the checker cannot count this many elements one by one
 returns : tie.Need-returns
 returns c = sym (length-replicate {0} {A = ℕ} 1048576 0)
 

@@ -1,4 +1,5 @@
--- The places before `start` still hold 0s, and the digits from `start` on follow those of what is left of the number.
+-- Loop invariant: the elements before `start` are 0, and the digits from `start` on follow
+-- those of the rest of the number.
 use mathlib.Core.Path.{_≡_, refl, sym, ap, _∙_}
 use mathlib.Core.List.{List, [], _∷_, _++_, append-assoc, append-nil}
 use Prim.Native.Nat.{ℕ, zero, suc, _+_, _-_, _/_, _%_, _≤_, _<_}

@@ -1,4 +1,4 @@
--- A digit's arm has its value by computing. That every other character has 16 is one test, computed at each of the 256.
+-- The arm of each digit holds by computation. That every other character has 16 is one test, computed for all 256.
 use mathlib.Core.Path.{_≡_, refl, sym}
 use mathlib.Core.Bool.{Bool, true, false, _&&_, _||_, true≢false}
 use mathlib.Core.List.{List, [], _∷_}

@@ -13,7 +13,7 @@ use Rattle.packet.specs.declared.InvalidateRequest.{InvalidateRequest}
 use Rattle.packet.specs.declared.PrgIndex.{PrgIndex}
 use Rattle.packet.specs.Numbers.{Result, ok, refusal, check}
 use Rattle.packet.specs.Reading.{reading, payloadIn}
-use Rattle.tlp.specs.Frames.{Bytes}
+use Rattle.tlp.specs.Bytes.{Bytes}
 use Rattle.tlp.proofs.Laws.{completion-payload}
 use Rattle.pages.specs.declared.Interface.{Interface}
 use Rattle.pages.specs.declared.Interface.the-variants.{Off, On, Stopped}

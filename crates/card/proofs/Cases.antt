@@ -84,8 +84,8 @@ abbrev pub Completes : Function → List ℕ → Completion → Type 0
 Completes f bytes x = Arrives f bytes (Cpl x) (x .requester)
 
 -- the class of a completion for the Translation Request of its tag
-abbrev pub partOf : Function → List ℕ → Completion → PendingTranslation → Part
-partOf f bytes x q = classified q (f .rcb) (x .count) (x .lower) (payloadIn bytes)
+abbrev pub classOf : Function → List ℕ → Completion → PendingTranslation → Part
+classOf f bytes x q = classified q (f .rcb) (x .count) (x .lower) (payloadIn bytes)
 
 module _ (f : Function) (bytes out : List ℕ) where
   abbrev load : List ℕ
@@ -136,20 +136,20 @@ module _ (f : Function) (bytes out : List ℕ) where
         → tagState (f .tags) (x .tag) ≡ Translate q → x .outcome ≡ Status status → eqb status 0 ≡ false
         → P Receive (sendsNothing (withEnable (withTag f (x .tag) Free) false) switchedOffBy)
     pub offBoundary : (x : Completion) (q : PendingTranslation) (n : ℕ) → Completes f bytes x
-        → tagState (f .tags) (x .tag) ≡ Translate q → x .outcome ≡ Data n → partOf f bytes x q ≡ OffBoundary
+        → tagState (f .tags) (x .tag) ≡ Translate q → x .outcome ≡ Data n → classOf f bytes x q ≡ OffBoundary
         → P Receive (sendsNothing (withTag f (x .tag) Free) discarded)
     pub firstDiscarded : (x : Completion) (q : PendingTranslation) (n : ℕ) → Completes f bytes x
-        → tagState (f .tags) (x .tag) ≡ Translate q → x .outcome ≡ Data n → partOf f bytes x q ≡ First
+        → tagState (f .tags) (x .tag) ≡ Translate q → x .outcome ≡ Data n → classOf f bytes x q ≡ First
         → P Receive (sendsNothing (withTag f (x .tag) (Translate (afterFirst q (x .count) load))) discarded)
     pub lastDiscarded : (x : Completion) (q : PendingTranslation) (n : ℕ) → Completes f bytes x
-        → tagState (f .tags) (x .tag) ≡ Translate q → x .outcome ≡ Data n → partOf f bytes x q ≡ Last
+        → tagState (f .tags) (x .tag) ≡ Translate q → x .outcome ≡ Data n → classOf f bytes x q ≡ Last
         → P Receive (sendsNothing (withTag f (x .tag) Free) discarded)
     pub firstFills : (x : Completion) (q : PendingTranslation) (n : ℕ) → Completes f bytes x
-        → tagState (f .tags) (x .tag) ≡ Translate q → x .outcome ≡ Data n → partOf f bytes x q ≡ First
+        → tagState (f .tags) (x .tag) ≡ Translate q → x .outcome ≡ Data n → classOf f bytes x q ≡ First
         → isLive f q ≡ true
         → P Receive (sendsNothing (withTag (withCache f (applied q load (f .cache))) (x .tag) (Translate (afterFirst q (x .count) load))) more)
     pub lastFills : (x : Completion) (q : PendingTranslation) (n : ℕ) → Completes f bytes x
-        → tagState (f .tags) (x .tag) ≡ Translate q → x .outcome ≡ Data n → partOf f bytes x q ≡ Last
+        → tagState (f .tags) (x .tag) ≡ Translate q → x .outcome ≡ Data n → classOf f bytes x q ≡ Last
         → isLive f q ≡ true
         → P Receive (sendsNothing (withTag (withCache f (applied q load (f .cache))) (x .tag) Free) filled)
     -- an Invalidate Request is received, and a PRG Response
@@ -247,7 +247,7 @@ module _ (f : Function) (bytes out : List ℕ) (P : Command → Result Success �
       comes = record { packet = p; reads = e; is = is; ours = ours }
 
       translates : (q : PendingTranslation) (n : ℕ) → tagState (f .tags) (x .tag) ≡ Translate q → x .outcome ≡ Data n
-          → (y : Part) → partOf f bytes x q ≡ y
+          → (y : Part) → classOf f bytes x q ≡ y
           → P Receive (onTranslationPart f (x .tag) q (x .count) (payloadIn bytes) y)
       unfolding appliedIfLive
       translates q n h d Misfit j = kind 8 (Cpl x) is refl
@@ -259,7 +259,7 @@ module _ (f : Function) (bytes out : List ℕ) (P : Command → Result Success �
           → P Receive (completedFor f x (payloadIn bytes) y o)
       unfolding onTranslationData onTranslationStatus onReadData onReadStatus
       completes-for y d Free h = kind 7 (Cpl x) is refl
-      completes-for (Data n) d (Translate q) h = translates q n h d (partOf f bytes x q) refl
+      completes-for (Data n) d (Translate q) h = translates q n h d (classOf f bytes x q) refl
       completes-for (Status s) d (Translate q) h =
           either-case (P Receive) (eqb s 0) _ _ (λ z. kind 8 (Cpl x) is refl)
           (λ z. either-case (P Receive) (eqb s 4) _ _ (λ y. k .aborts x q s comes h d z) (λ y. k .switchesOff x q s comes h d z))

@@ -15,7 +15,7 @@ use Rattle.ranges.specs.Range.{regionOf, unitExponent, unitBytes, relocated, is
 use Rattle.ranges.proofs.Units.{relocated-lt, unitsFrom-first, unitsFrom-holds}
 use Rattle.packet.specs.declared.ITag.{ITag}
 use Rattle.packet.specs.declared.Tag.{Tag}
-use Rattle.tlp.specs.Frames.{Bytes}
+use Rattle.tlp.specs.Bytes.{Bytes}
 use Rattle.tlp.specs.Translations.{translationAt}
 use Rattle.atc.specs.declared.Entry.{Entry}
 use Rattle.atc.specs.declared.Cache.{Cache}

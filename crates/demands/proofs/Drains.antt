@@ -31,7 +31,7 @@ use Rattle.lemmas.proofs.Bools.{no-tf, no-some}
 use Rattle.demand3.specs.Demand.{Ticket, noneBelow, DRAIN, IC}
 use Rattle.demand3.proofs.Laws.{Step}
 use Rattle.demand3.proofs.Theorem.{none-not}
-use Rattle.tlp.specs.Qwords.{areBytes}
+use Rattle.tlp.specs.Bytes.{areBytes}
 use Rattle.demands.specs.Demands.{isTyped, Call, Noted, itag, isListed}
 use Rattle.demands.proofs.Views.{own-packet, tag, isAgent, view, Ok, Good, good-plain, good-send}
 use lib.Count.{ones}

@@ -31,7 +31,7 @@ use Rattle.lemmas.proofs.Bools.{no-tf}
 use Rattle.demand3.specs.Demand.{Ticket, accepts, waits, Bench, resets, stateAfter, history, Unbroken, Order}
 use Rattle.demand3.proofs.Laws.{Step}
 use Rattle.demand3.proofs.Theorem.{Blank, Lawful, ok-run, told-run, order}
-use Rattle.tlp.specs.Qwords.{areBytes}
+use Rattle.tlp.specs.Bytes.{areBytes}
 use Rattle.demands.specs.Demands.{isTyped, Call, isRefused, isReset, Noted, notedAfter, callTaken, packetSent, isPacket, card}
 use Rattle.demands.proofs.Views.{tag, pendingOf, view, Ok, Good, good-plain, quiet}
 use Rattle.demands.proofs.Sends.{same-ok, good-enable, good-ask, good-read, good-write, good-page}

@@ -19,7 +19,7 @@ use Rattle.packet.specs.declared.PrgResponse.{PrgResponse}
 use Rattle.packet.specs.declared.Body.{Body}
 use Rattle.packet.specs.declared.Body.the-variants.{Cpl, Inv, Prs}
 use Rattle.packet.specs.Reading.{payloadIn}
-use Rattle.tlp.specs.Frames.{Bytes}
+use Rattle.tlp.specs.Bytes.{Bytes, areBytes}
 use Rattle.tlp.proofs.Laws.{read-typed, completion-payload}
 use Rattle.atc.specs.declared.Entry.{Entry}
 use Rattle.atc.specs.declared.Cache.{Cache}
@@ -45,7 +45,6 @@ use Rattle.card.specs.declared.Command.the-variants.{Receive}
 use Rattle.lemmas.proofs.Bools.{no-tf, no-some}
 use Rattle.demand3.specs.Demand.{CPL, leaves, isOpen}
 use Rattle.demand3.proofs.Laws.{Step, fills}
-use Rattle.tlp.specs.Qwords.{areBytes}
 use Rattle.demands.specs.Demands.{isReplied, Cached, Reply, terms, isTyped, Call, Noted, outcomeTaken, bodyTaken, heldIn}
 use Rattle.demands.proofs.Views.{askedBy, pendingOf, liveOf, view, Ok, Good, good-plain, quiet, no-entry}
 use Rattle.demands.proofs.Sends.{same-ok}
@@ -58,7 +57,7 @@ use Rattle.state.specs.State.{withTag, withCache, withEnable, withPages}
 use Rattle.state.specs.Answers.{payloadLast, payloadMore, readFailed, aborted, switchedOff, discarded, more, filled, done}
 use Rattle.on_invalidate.specs.Invalidate.{invalidatedBy}
 use Rattle.pages.specs.declared.Pages.{Pages}
-use Rattle.card.proofs.Cases.{Arrives, Completes, partOf}
+use Rattle.card.proofs.Cases.{Arrives, Completes, classOf}
 
 module _ (me : Noted) (f : Function) (o : Ok me f) (bytes out : List ℕ) (ty : isTyped Receive ≡ true) (are : areBytes bytes ≡ true) where
   abbrev receive-call : Call
@@ -186,11 +185,11 @@ module _ (me : Noted) (f : Function) (o : Ok me f) (bytes out : List ℕ) (ty : 
         given : outcomeTaken (t .0) (c .count) load (c .outcome) ≡ some (CPL (t .0) (some reply))
         given = rw x refl
 
-        pub good-off : partOf f bytes c q ≡ OffBoundary
+        pub good-off : classOf f bytes c q ≡ OffBoundary
             → Does (Good me f receive-call) (sendsNothing (withTag f t Free) discarded)
         good-off j = frees (Translate q) holds asks-used (some reply) given (f .enabled) _ (rw (eq-eqb (c .count) (length load) (off-whole q (f .rcb) (c .count) (c .lower) load j)))
 
-        module _ (j : partOf f bytes c q ≡ Last) where
+        module _ (j : classOf f bytes c q ≡ Last) where
           whole : eqb (c .count) (length load) ≡ true
           whole = eq-eqb (c .count) (length load) (last-whole q (f .rcb) (c .count) (c .lower) load j)
 
@@ -201,7 +200,7 @@ module _ (me : Noted) (f : Function) (o : Ok me f) (bytes out : List ℕ) (ty : 
           pub good-last-dead : Does (Good me f receive-call) (sendsNothing (withTag f t Free) discarded)
           good-last-dead = frees (Translate q) holds asks-used (some reply) given (f .enabled) _ (rw whole)
 
-        module _ (j : partOf f bytes c q ≡ First) where
+        module _ (j : classOf f bytes c q ≡ First) where
           abbrev rest : PendingTranslation
           rest = afterFirst q (c .count) load
 

@@ -51,7 +51,7 @@ use Rattle.card.specs.declared.Command.the-variants.{Enable, Ask as Asks, Acces
 use Rattle.lemmas.proofs.Bools.{no-tf, no-some}
 use Rattle.demand3.specs.Demand.{Ticket, Sent, TR, READ, Pending, translation, onSent, uses, reaches, completes}
 use Rattle.demand3.proofs.Laws.{Step, Through}
-use Rattle.tlp.specs.Qwords.{areBytes}
+use Rattle.tlp.specs.Bytes.{areBytes}
 use Rattle.demands.specs.Demands.{Wanted, terms, isTyped, Call, Noted, addressFor, itag}
 use Rattle.demands.proofs.Views.{own-packet, no-entry, tag, pendingOf, liveOf, view, Ok, Good, good-plain, good-send, quiet, writes}
 use Rattle.demands.proofs.Tags.{at-own, at-other, left-ok}

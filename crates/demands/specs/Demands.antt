@@ -34,10 +34,9 @@ use Rattle.packet.specs.Forms.{dwordCount}
 use Rattle.packet.specs.Reading.{reading, payloadIn}
 use Rattle.packet.specs.Writing.{writing, bytesOf}
 use Rattle.packet.specs.Normal.{normal}
-use Rattle.tlp.specs.Frames.{Bytes}
+use Rattle.tlp.specs.Bytes.{Bytes, areBytes}
 use Rattle.tlp.specs.Fields.{Typed}
 use Rattle.tlp.specs.Forbidden.{readingByPhrases, writingByPhrases}
-use Rattle.tlp.specs.Qwords.{areBytes}
 use Rattle.tlp.specs.Translations.{translationAt}
 use Rattle.atc.specs.declared.Entry.{Entry}
 use Rattle.atc.specs.Cache.{entryAt, entryOverlaps}

@@ -9,7 +9,7 @@ use lib.ListN.{replicate}
 use Rattle.packet.specs.Frames.{fourBytes}
 use Rattle.packet.specs.Numbers.{ok, refusal}
 use Rattle.ranges.specs.declared.Range.{Range}
-use Rattle.tlp.specs.Qwords.{areBytes}
+use Rattle.tlp.specs.Bytes.{areBytes}
 use Rattle.state.specs.State.{fresh, rcbOf}
 use Rattle.state.specs.Answers.{done}
 use Rattle.call_access.specs.declared.Direction.the-variants.{Read}

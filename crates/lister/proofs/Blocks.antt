@@ -13,9 +13,8 @@ use Rattle.rows.specs.Rows.{rowIn}
 use Rattle.rows.proofs.Short.{outLine-short}
 use Rattle.lister.specs.declared.Progress.{Progress}
 use Rattle.lister.specs.Line.{lineRead, lineText}
-use Rattle.lister.specs.Stream.{printed, numberAfter, startAfter, lastText, first289}
+use Rattle.lister.specs.Stream.{printed, numberAfter, startAfter, lastText, first289, concat}
 use Rattle.lister.specs.Pieces.{initialProgress, startIn, takes, left, fed, finished}
-use Rattle.lister.specs.Cuts.{concat}
 use Rattle.lister.proofs.Cuts.{inPieces, any-pieces}
 use Rattle.lister.proofs.Calls.{start-kept}
 use Rattle.lister.specs.Blocks.{handedOut, AllAtMost, AnyBlocks}

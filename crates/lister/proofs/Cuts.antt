@@ -9,8 +9,7 @@ use lib.ListN.{length, take}
 use lib.Seq.{take-all, take-take, length-take-le}
 use borrow.Author.Tests.{lt-ltb, ltb-true, ltb-false}
 use Rattle.lister.specs.Line.{lineRead, lineText}
-use Rattle.lister.specs.Stream.{printed, numberAfter, startAfter, lastText, listing, first289}
-use Rattle.lister.specs.Cuts.{concat}
+use Rattle.lister.specs.Stream.{printed, numberAfter, startAfter, lastText, listing, first289, concat}
 
 -- ---- one piece after another
 

@@ -4,9 +4,8 @@ use mathlib.Core.Path.{_≡_}
 use mathlib.Core.List.{List, [], _∷_}
 use lib.ListN.{length, take}
 use Rattle.lister.specs.declared.Progress.{Progress}
-use Rattle.lister.specs.Stream.{listing}
+use Rattle.lister.specs.Stream.{listing, concat}
 use Rattle.lister.specs.Pieces.{initialProgress, fed, finished}
-use Rattle.lister.specs.Cuts.{concat}
 
 -- The parts of the output, one for each block and one at the end: after each call, the bytes that
 -- are ready at the start of `out`.

@@ -1,6 +1,5 @@
 pub mod Runs
 pub mod Line
 pub mod Stream
-pub mod Cuts
 pub mod Pieces
 pub mod Blocks

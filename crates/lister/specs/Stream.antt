@@ -33,3 +33,8 @@ listing cs = printed 1 [] cs ++ lastText (numberAfter 1 cs) (startAfter [] cs)
 -- Of a line of more than 288 characters only the first 289 matter: they show that it is too long.
 abbrev pub first289 : List ℕ → List ℕ
 first289 p = take 289 p
+
+-- the pieces of an input, one after the other
+unfoldable pub concat : List (List ℕ) → List ℕ
+concat [] = []
+concat (b ∷ bs) = b ++ concat bs

@@ -15,7 +15,7 @@ use Rattle.packet.specs.Frames.{byte, num16At, num32At, num64At, decodeFrame, f
 use Rattle.packet.specs.Forms.{payloadOffset}
 use Rattle.packet.specs.Kinds.{bodyIn, wellFormed}
 use Rattle.packet.specs.Reading.{readForm}
-use Rattle.tlp.specs.Frames.{Bytes}
+use Rattle.tlp.specs.Bytes.{Bytes}
 
 -- each field of a frame fits the bits that it has in the bytes
 pub record Sound (f : Frame) : Type 0 where

@@ -27,7 +27,7 @@ use Rattle.ranges.specs.declared.Size.{Size}
 use Rattle.ranges.specs.declared.Size.the-variants.{Exponent, NoSize}
 use Rattle.ranges.specs.Size.{sizeOf}
 use Rattle.ranges.proofs.Laws.{no-size}
-use Rattle.tlp.specs.Frames.{Bytes}
+use Rattle.tlp.specs.Bytes.{Bytes}
 use Rattle.tlp.proofs.Frames.{Sound, frame-sound}
 use Rattle.tlp.specs.Fields.{TypedBody, Typed}
 use Rattle.tlp.proofs.RoundTrips.{written-reads, written-payload, written-length, read-writes, told, payload-is}

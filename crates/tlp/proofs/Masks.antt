@@ -14,7 +14,7 @@ use Rattle.packet.specs.declared.Frame.{Frame}
 use Rattle.packet.specs.Frames.{byte, num16At, num32At, num64At, decodeFrame}
 use Rattle.packet.specs.Normal.{masked}
 use Rattle.lemmas.proofs.Cases.{byCases}
-use Rattle.tlp.specs.Frames.{Bytes}
+use Rattle.tlp.specs.Bytes.{Bytes}
 use Rattle.tlp.proofs.Frames.{num16-lt, num32-lt, upTo}
 
 -- ---- lists

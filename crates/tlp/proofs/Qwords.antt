@@ -13,10 +13,9 @@ use Rattle.ranges.specs.declared.Size.the-variants.{Exponent, NoSize}
 use Rattle.ranges.specs.Size.{baseOf, sizeOf, bit, translationOf}
 use Rattle.ranges.proofs.Units.{region-first}
 use Rattle.packet.specs.Reading.{qwordAt}
-use Rattle.tlp.specs.Frames.{Bytes}
+use Rattle.tlp.specs.Bytes.{Bytes, areBytes}
 use Rattle.tlp.proofs.Frames.{num64-lt}
 use Rattle.tlp.specs.Translations.{translationAt}
-use Rattle.tlp.specs.Qwords.{areBytes}
 
 pub octets : (b : List ℕ) → areBytes b ≡ true → Bytes b
 octets [] e zero = lit≤ tt

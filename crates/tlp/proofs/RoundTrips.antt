@@ -21,7 +21,7 @@ use Rattle.packet.specs.Reading.{readForm, readFrame, readChoice, reading, payl
 use Rattle.packet.specs.Writing.{writing, bytesOf, bufferAfter}
 use Rattle.packet.specs.Normal.{maskOf, masked, normalAs, normal}
 use Rattle.packet.proofs.Laws.{check-passed, refuse-passed, ok-injective, Accepted, accepted}
-use Rattle.tlp.specs.Frames.{Bytes}
+use Rattle.tlp.specs.Bytes.{Bytes}
 use Rattle.tlp.proofs.Frames.{upTo, read-upTo, encodeFrame-back, fixed-length, fixed-low, frame-sound, encodeFrame-upTo}
 use Rattle.tlp.specs.Fields.{Typed}
 use Rattle.tlp.proofs.Fields.{Framed, fields, longest}

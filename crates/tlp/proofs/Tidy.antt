@@ -19,7 +19,7 @@ use Rattle.packet.specs.Kinds.{bodyIn, wellFormed}
 use Rattle.packet.specs.Reading.{readForm}
 use Rattle.packet.specs.Normal.{maskOf, masked}
 use Rattle.lemmas.proofs.Cases.{byCases, and-both}
-use Rattle.tlp.specs.Frames.{Bytes}
+use Rattle.tlp.specs.Bytes.{Bytes}
 use Rattle.tlp.proofs.Frames.{Sound, upTo, fixed-low, frame-sound}
 use Rattle.tlp.proofs.Masks.{masked-at, masked-le, meet, frame-meet}
 

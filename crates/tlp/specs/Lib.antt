@@ -1,5 +1,4 @@
-pub mod Frames
+pub mod Bytes
 pub mod Fields
 pub mod Forbidden
 pub mod Translations
-pub mod Qwords

@@ -113,7 +113,8 @@ module _ (f : Function) (bytes out : List ℕ) where
     pub write : (a : AccessArgs) (at : Target) → a .direction ≡ ToWrite → lookingUp f a (length bytes) ≡ ok at
         → P (Access a) (writeTo f at (a .dwords) bytes out)
     pub drainsNone : eqb (readyOf f) 0 ≡ true → P Drain (sendsNothing f (carries 0))
-    pub drains : P Drain (sends (withWaiting f (without (f .waiting) (readyOf f))) (carries (ones (readyOf f))) (invalidateCompletionPacket (f .id) (f .agent) (readyOf f)) [] out)
+    pub drains : eqb (readyOf f) 0 ≡ false
+        → P Drain (sends (withWaiting f (without (f .waiting) (readyOf f))) (carries (ones (readyOf f))) (invalidateCompletionPacket (f .id) (f .agent) (readyOf f)) [] out)
     pub page : (q : PageRequest) → isValidRequest q ≡ true → isSpent (f .pages .groups) (f .pages .allocation) ≡ false
         → P (PageRequests q) (sends (withPages f (withRequest (f .pages) q)) done (pageRequestPacket (f .id) q) [] out)
     -- a completion for a read is received: the last bytes, some of them, none
@@ -225,7 +226,7 @@ module _ (f : Function) (bytes out : List ℕ) (P : Command → Result Success �
 
   draining-by : P Drain (draining f out)
   unfolding sendsVector
-  draining-by = either-case (P Drain) (eqb (readyOf f) 0) _ _ (k .drainsNone) (λ z. k .drains)
+  draining-by = either-case (P Drain) (eqb (readyOf f) 0) _ _ (k .drainsNone) (k .drains)
 
   requests : (q : PageRequest) (i : Interface) → P (PageRequests q) (requesting f q out i)
   unfolding requestingOn

@@ -66,7 +66,7 @@ fits-call f bytes out =
       write = λ a at w e. let h = reached f a (length bytes) at e in
           sends-numbers _ _ _ _ bytes out refl (write-sendable (headOf (f .id)) refl (a .dwords) (at .address) (at .translated) (h .some) (h .few) (h .dword) (length bytes) (rw w at (h .fills)));
       drainsNone = λ z. among-ok _ _;
-      drains = sends-numbers _ _ _ _ [] out refl (ic-sendable (headOf (f .id)) refl _ (lit≤ tt));
+      drains = λ z. sends-numbers _ _ _ _ [] out refl (ic-sendable (headOf (f .id)) refl _ (lit≤ tt));
       page = λ q e s. let wish = and-both (q .read || q .write) _ e in
           let page = and-both (eqb (q .page % 4096) 0) (isIndex (q .index)) (wish .1) in
           sends-numbers _ _ _ _ [] out refl (prq-sendable (headOf (f .id)) refl q (eqb-true (q .page % 4096) 0 (page .0)) (omega (arith, ltb-true (q .index .0) 32 (page .1))));

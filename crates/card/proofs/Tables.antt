@@ -90,7 +90,7 @@ module _ (f : Function) (c : Command) (bytes : List ℕ) (P : Cache → List Tag
         read = λ a at t w l free e. does-send Over _ _ _ _ _ (λ n. k .tag t _);
         write = λ a at w l e. does-send Over _ _ _ _ _ (λ n. k .same);
         drainsNone = λ z e. does-nothing Over _ _ (k .same);
-        drains = λ e. does-send Over _ _ _ _ _ (λ n. k .same);
+        drains = λ z e. does-send Over _ _ _ _ _ (λ n. k .same);
         page = λ q a s e. does-send Over _ _ _ _ _ (λ n. k .request q s);
         readEnds = λ x r n a h d y z e. does-nothing Over _ _ (k .tag (x .tag) _);
         readGoesOn = λ x r n a h d y z m e. does-nothing Over _ _ (k .tag (x .tag) _);

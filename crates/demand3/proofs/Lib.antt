@@ -1,2 +1,4 @@
 pub mod Laws
 pub mod Theorem
+pub mod Consequence
+pub mod Renumbered

@@ -1,18 +1,23 @@
 -- The laws imply the third demand, for every machine.
 use mathlib.Core.Path.{_≡_, refl, sym, ap, _∙_}
-use mathlib.Core.Logic.{_⊎_, inl, inr}
+use mathlib.Core.Logic.{_⊎_, inl, inr, ⊎-elim, _↔_}
 use mathlib.Core.Bool.{Bool, true, false, not, cond, _&&_, _||_, and-false, or-true}
 use mathlib.Core.List.{List, [], _∷_, _++_, append-nil}
 use mathlib.Core.Option.{Option, none, some}
 use Prim.Native.Nat.{ℕ, zero, suc, _+_, _-_, _<_}
 use native.Mathlib.Nat.{zero-add}
 use native.Mathlib.Omega.{arith}
-use borrow.Author.Tests.{eqb-true, eqb-false}
-use lib.Dec.{eqb, leb}
-use Rattle.demand3.specs.Demand.{Terms, Ticket, Taken, CPL, INV, DRAIN, Sent, TR, READ, WRITE, IC, Seen, Pending, translation, fetch, given, noneBelow, isOpen, leaves, onTaken, onSent, openAt, remains, readIn, uses, reaches, accepts, drains, completes, requests, completions, older, waits, gave, brings, Observer, Machine, Bench, Served, next, packet, seen, resets, stateAfter, history, Unbroken, CameFrom, Arrived, Completed, OnlyNewEntries, NoOldRead, OrderFrom, Order}
-use Rattle.lemmas.proofs.Cases.{byCases, either-case, and-both}
+use borrow.Author.Tests.{eqb-true, eqb-false, eq-eqb}
+use lib.Dec.{eqb}
+use lib.ListN.{length, drop}
+use Rattle.demand3.specs.Terms.{Terms}
+use Rattle.demand3.specs.Seen.{Ticket, Taken, CPL, INV, DRAIN, Sent, TR, READ, WRITE, IC, Seen}
+use Rattle.demand3.specs.History.{Pending, translation, fetch, given, noneBelow, isOpen, leaves, onTaken, onSent, openAt, remains, readIn, uses, reaches, goesDirect, accepts, drains, completes, requests, completions, requestOf, completionOf, requestsOf, completionsOf, agentTaken, agentIn, older, waits, waitsOf, gave, brings}
+use Rattle.demand3.specs.Runs.{Observer, Machine, Bench, refuses, resets, packet, seen, next, stateAfter, history, Unbroken, Run, start, arrival, end, seenAt, later, earlier, Holds, CameFrom, Served}
+use Rattle.demand3.specs.Order.{Arrived, Completed, OnlyNewEntries, NoOldRead, Letter, Beyond, Starts, Order}
+use Rattle.lemmas.proofs.Cases.{byCases, either-case, and-both, never-both, is-false}
 use Rattle.lemmas.proofs.Bools.{no-tf, no-some, cond-same}
-use Rattle.demand3.proofs.Laws.{View, Step, ends, fills, Apart}
+use Rattle.demand3.proofs.Laws.{View, Step, HeldIn, ends, fills, Apart}
 
 -- ---- numbers below n, and Booleans
 
@@ -45,16 +50,42 @@ drain-bits false false = refl
 some-one : {a b : ℕ} → _≡_ {A = Option ℕ} (some a) (some b) → a ≡ b
 some-one e = cc
 
+abbrev ticket : ℕ → ℕ → Ticket
+ticket agent number = record { agent = agent; number = number }
+
+itself : (T : Terms) (i : Ticket) (a : T .Area) → accepts {T = T} i (some (INV i a)) ≡ some a
+itself T i a = rw (eq-eqb (i .agent) (i .agent) refl, eq-eqb (i .number) (i .number) refl)
+
 -- ---- open requests
 
 module _ {T : Terms} where
+  -- the completion of an ITag is one of a ticket
+  completion-none : (k : ℕ) (y : Option (Sent T)) → ((g : ℕ) → completes (ticket g k) y ≡ false)
+      → completionOf k y ≡ false
+  completion-none k none f = refl
+  completion-none k (some (TR t q)) f = refl
+  completion-none k (some (READ t x b to)) f = refl
+  completion-none k (some (WRITE x b to)) f = refl
+  completion-none k (some (IC g v)) f = sym (ap (λ (z : Bool). z && v k) (eq-eqb g g refl)) ∙ f g
+
+  completion-is : (k g : ℕ) (y : Option (Sent T)) → ((f : ℕ) → completes (ticket f k) y ≡ true → f ≡ g)
+      → completionOf k y ≡ completes (ticket g k) y
+  completion-is k g none f = refl
+  completion-is k g (some (TR t q)) f = refl
+  completion-is k g (some (READ t x b to)) f = refl
+  completion-is k g (some (WRITE x b to)) f = refl
+  completion-is k g (some (IC o v)) f =
+      byCases (v k)
+      (λ e. let same : o ≡ g = f o (rw (eq-eqb o o refl, e)) in rw (e, ← same, eq-eqb o o refl))
+      (λ e. rw (e, and-false (eqb g o)))
+
   shut : (o : Option (Pending T)) → isOpen o ≡ false → o ≡ none
   shut none e = refl
   shut (some o) e = no-tf e
 
   taken-none : (t : ℕ) (k : Option (Taken T)) → onTaken t k none ≡ none
   taken-none t none = refl
-  taken-none t (some (CPL u d)) = cond-same (eqb t u) none
+  taken-none t (some (CPL u n d)) = cond-same (eqb t u) none
   taken-none t (some (INV i a)) = refl
   taken-none t (some (DRAIN n)) = refl
 
@@ -68,7 +99,7 @@ module _ {T : Terms} where
       → isOpen (onTaken t k o) ≡ (not (ends t k o) && isOpen o)
   taken-stays t k none = rw (taken-none t k) (sym (and-false (not (ends t k none))))
   taken-stays t none (some o) = refl
-  taken-stays t (some (CPL u d)) (some o) = go (eqb t u)
+  taken-stays t (some (CPL u n d)) (some o) = go (eqb t u)
     where
       go : (b : Bool)
           → isOpen (cond b (leaves d (some o)) (some o)) ≡ (not (b && not (isOpen (leaves d (some o)))) && true)
@@ -84,7 +115,7 @@ module _ {T : Terms} where
   accepts-taken : (i : Ticket) (a : T .Area) (t : ℕ) (k : Option (Taken T)) (o : Option (Pending T))
       → accepts i k ≡ some a → onTaken t k o ≡ o
   accepts-taken i a t none o e = refl
-  accepts-taken i a t (some (CPL u d)) o e = no-some e
+  accepts-taken i a t (some (CPL u n d)) o e = no-some e
   accepts-taken i a t (some (INV k b)) o e = refl
   accepts-taken i a t (some (DRAIN n)) o e = refl
 
@@ -105,7 +136,7 @@ module _ {T : Terms} where
   read-is : (a : T .Area) (o : Option (Pending T)) → isOpen (readIn a o) ≡ true → readIn a o ≡ o
   read-is a none e = refl
   read-is a (some (translation q n)) e = no-tf (sym e)
-  read-is a (some (fetch x b n)) e = go (x && T .meets a b) (fetch x b n) e
+  read-is a (some (fetch x b n)) e = go (x && T .accessIn a b) (fetch x b n) e
     where
       go : (z : Bool) (o : Pending T) → isOpen (cond z (some o) none) ≡ true → cond z (some o) none ≡ some o
       go true o p = refl
@@ -114,7 +145,7 @@ module _ {T : Terms} where
   apart-taken : (a : T .Area) (t : ℕ) (k : Option (Taken T)) (o : Option (Pending T)) → Apart a o
       → Apart a (onTaken t k o)
   apart-taken a t none o p = p
-  apart-taken a t (some (CPL u d)) o p = at-tag (eqb t u)
+  apart-taken a t (some (CPL u n d)) o p = at-tag (eqb t u)
     where
       kept : (b : Bool) (o : Pending T) → Apart a (some o) → Apart a (cond b none (some o))
       kept true o f = tt
@@ -123,9 +154,9 @@ module _ {T : Terms} where
       after-less : (d : Option (T .Data)) (o : Option (Pending T)) → Apart a o → Apart a (leaves d o)
       after-less d none p = tt
       after-less none (some o) p = tt
-      after-less (some d) (some (translation q n)) p =
-          kept (eqb (T .count d) (T .size d)) (translation q (n + T .size d)) p
-      after-less (some d) (some (fetch x b n)) p = either-case (Apart a) (eqb (T .count d) n) _ _ (λ e. kept (leb n (T .size d)) (fetch x b (n - T .size d)) tt) (λ e. tt)
+      after-less (some d) (some (translation q m)) p =
+          kept (eqb (T .count d) (T .size d)) (translation q (m + T .size d)) p
+      after-less (some d) (some (fetch x b m)) p = either-case (Apart a) (eqb (T .count d) m) _ _ (λ e. kept (eqb (T .size d) m) (fetch x b (m - T .size d)) tt) (λ e. tt)
 
       at-tag : (b : Bool) → Apart a (cond b (leaves d o) o)
       at-tag true = after-less d o p
@@ -134,7 +165,7 @@ module _ {T : Terms} where
   apart-taken a t (some (DRAIN n)) o p = p
 
   apart-gave : (a : T .Area) (o : Option (Pending T)) → Apart a o → (e : T .Entry) (d : T .Data) → gave e d o ≡ true
-      → T .overlaps a e ≡ false
+      → T .entryIn a e ≡ false
   apart-gave a none p e d g = no-tf (sym g)
   apart-gave a (some (translation q n)) p e d g = p n d e g
   apart-gave a (some (fetch x b n)) p e d g = no-tf (sym g)
@@ -151,6 +182,12 @@ module _ {T : Terms} (tags : ℕ) where
     pub noted : (i : Ticket) (t : ℕ) → v .waiting i ≡ true → v .waitsFor i t ≡ true → isOpen (v .opens t) ≡ true
     pub counts : (i : Ticket) → requests i h ≡ completions i h + cond (waits tags i h) 1 0
     pub agent : (i : Ticket) → 0 < requests i h → v .agent ≡ some (i .agent)
+
+  -- and by the number of an ITag alone
+  pub record Summed (v : View T) (h : List (Seen T)) : Type 0 where
+    pub agent : (g : ℕ) → agentIn h ≡ some g → v .agent ≡ some g
+    pub nobody : agentIn h ≡ none → (i : Ticket) → requests i h ≡ 0
+    pub sums : (k : ℕ) → requestsOf k h ≡ completionsOf k h + cond (waitsOf tags k h) 1 0
 
   module _ (v w : View T) (x : Seen T) (q : Step tags v w x) where
     -- the tag of an open request is not used for another
@@ -236,6 +273,96 @@ module _ {T : Terms} (tags : ℕ) where
         agent = told-agent;
       }
 
+      -- a ticket that waits was requested
+      waits-asked : (i : Ticket) → waits tags i h ≡ true → 0 < requests i h
+      waits-asked i e = rw (R .counts i, e) (omega arith)
+
+      module _ (S : Summed v h) where
+        not-waiting : agentIn h ≡ none → (i : Ticket) → waits tags i h ≡ false
+        not-waiting n i = is-false _ (λ e. let more = waits-asked i e in let none-yet = S .nobody n i in omega (arith, more, none-yet))
+
+        completed-waits : (i : Ticket) → completes i (x .sent) ≡ true → waits tags i h ≡ true
+        completed-waits i e = and-both (waits tags i h) _ (sym (carried i) ∙ e) .0
+
+        -- no Invalidate Request is accepted
+        module _ (apart : (i : Ticket) → accepts i (x .took) ≡ none) (k : ℕ) where
+          summed-quiet : requestsOf k h
+              ≡ cond (completionOf k (x .sent)) 1 0 + completionsOf k h
+              + cond (given (agentIn h) (λ g. waits tags (ticket g k) (x ∷ h)) false) 1 0
+          unfolding drain
+          summed-quiet = go (agentIn h) refl
+            where
+              go : (o : Option ℕ) → agentIn h ≡ o
+                  → requestsOf k h
+                  ≡ cond (completionOf k (x .sent)) 1 0 + completionsOf k h
+                  + cond (given o (λ g. waits tags (ticket g k) (x ∷ h)) false) 1 0
+              go none n =
+                  let nothing = completion-none k (x .sent) (λ g. is-false _ (λ e. never-both _ (completed-waits (ticket g k) e) (not-waiting n (ticket g k)))) in
+                  let before : requestsOf k h ≡ completionsOf k h + 0 = rw n at (S .sums k) in
+                  rw nothing (omega (arith, before))
+              go (some g) n =
+                  let its = completion-is k g (x .sent) (λ f e. some-one (sym (R .agent (ticket f k) (waits-asked (ticket f k) (completed-waits (ticket f k) e))) ∙ S .agent g n)) in
+                  let before : requestsOf k h ≡ completionsOf k h + cond (waits tags (ticket g k) h) 1 0 = rw n at (S .sums k) in
+                  rw (its, carried (ticket g k), apart (ticket g k)) (omega (arith, before, drain-bits (drain (ticket g k)) (waits tags (ticket g k) h)))
+
+        -- an Invalidate Request with ticket i is accepted
+        module _ (i : Ticket) (a : T .Area) (is : x .took ≡ some (INV i a)) (k : ℕ) where
+          none-sent : completionOf k (x .sent) ≡ false
+          none-sent = completion-none k (x .sent) (λ g. q .carried (ticket g k) ∙ rw is refl)
+
+          same-agent : (g : ℕ) → agentIn h ≡ some g → g ≡ i .agent
+          same-agent g n = some-one (sym (q .lasts g (S .agent g n)) ∙ q .first i a (rw is (itself T i a)))
+
+          waited : waitsOf tags k h ≡ waits tags (ticket (i .agent) k) h
+          waited = go (agentIn h) refl
+            where
+              go : (o : Option ℕ) → agentIn h ≡ o
+                  → given o (λ g. waits tags (ticket g k) h) false ≡ waits tags (ticket (i .agent) k) h
+              go none n = sym (not-waiting n (ticket (i .agent) k))
+              go (some g) n = ap (λ (z : ℕ). waits tags (ticket z k) h) (same-agent g n)
+
+          summed-request : cond (eqb k (i .number)) 1 0 + requestsOf k h
+              ≡ cond (completionOf k (x .sent)) 1 0 + completionsOf k h + cond (waits tags (ticket (i .agent) k) (x ∷ h)) 1 0
+          summed-request =
+              byCases (eqb k (i .number))
+              (λ e. let idle : waits tags (ticket (i .agent) k) h ≡ false = R .waiting (ticket (i .agent) k) ∙ q .notYet (ticket (i .agent) k) a (rw (is, eq-eqb (i .agent) (i .agent) refl, e)) in
+              rw (none-sent, is, eq-eqb (i .agent) (i .agent) refl, e) (omega (arith, rw idle at before)))
+              (λ e. rw (none-sent, is, eq-eqb (i .agent) (i .agent) refl, e) (omega (arith, before)))
+            where
+              before : requestsOf k h ≡ completionsOf k h + cond (waits tags (ticket (i .agent) k) h) 1 0
+              before = rw waited at (S .sums k)
+
+        -- without an Invalidate Request
+        quietly : ((i : Ticket) → accepts i (x .took) ≡ none) → ((o : Option ℕ) → agentTaken (x .took) o ≡ o)
+            → ((k : ℕ) → requestOf k (x .took) ≡ false) → Summed w (x ∷ h)
+        quietly apart same none-asked = record {
+          agent = λ g e. q .lasts g (S .agent g (sym (same (agentIn h)) ∙ e));
+          nobody = λ e i. rw (apart i) (rw zero-add (S .nobody (sym (same (agentIn h)) ∙ e) i));
+          sums = λ k. rw (none-asked k, same (agentIn h), zero-add) (summed-quiet apart k);
+        }
+
+        summed-by : (y : Option (Taken T)) → x .took ≡ y → Summed w (x ∷ h)
+        summed-by none is = quietly (λ i. rw is refl) (λ o. rw is refl) (λ k. rw is refl)
+        summed-by (some (CPL t n d)) is = quietly (λ i. rw is refl) (λ o. rw is refl) (λ k. rw is refl)
+        summed-by (some (DRAIN n)) is = quietly (λ i. rw is refl) (λ o. rw is refl) (λ k. rw is refl)
+        summed-by (some (INV i a)) is = record {
+          agent = λ g e. q .first i a (rw is (itself T i a)) ∙ (rw is at e);
+          nobody = λ e. no-some (sym (rw is at e));
+          sums = λ k. rw is (rw is at (summed-request i a is k));
+        }
+
+        pub summed : Summed w (x ∷ h)
+        summed = summed-by (x .took) refl
+
+  -- what fills the cache was brought for a Translation Request of the history
+  filled-brings : (v : View T) (h : List (Seen T)) → Told v h → (e : T .Entry) (y : Option (Taken T))
+      → fills v y e ≡ true → brings e y h ≡ true
+  filled-brings v h R e none f = f
+  filled-brings v h R e (some (CPL t n none)) f = f
+  filled-brings v h R e (some (CPL t n (some d))) f = rw (R .opens t) (and-both (v .live t) _ f .1)
+  filled-brings v h R e (some (INV i a)) f = f
+  filled-brings v h R e (some (DRAIN n)) f = f
+
   -- An Invalidate Request with ticket i and area a was accepted; old t is the overlapping translated read of tag t that
   -- was open then. h is the history since.
   module _ (i : Ticket) (a : T .Area) (old : ℕ → Option (Pending T)) where
@@ -294,10 +421,10 @@ module _ {T : Terms} (tags : ℕ) where
       since = record { tickets = new-ticket; reads = still-held }
 
       -- an overlapping entry is an old one, or came from a Translation Request sent since
-      filled : (e : T .Entry) (k : Option (Taken T)) → T .overlaps a e ≡ true → fills v k e ≡ true → brings e k h ≡ true
+      filled : (e : T .Entry) (k : Option (Taken T)) → T .entryIn a e ≡ true → fills v k e ≡ true → brings e k h ≡ true
       filled e none o f = f
-      filled e (some (CPL t none)) o f = f
-      filled e (some (CPL t (some d))) o f = go (I .tickets t (and-both _ _ f .0))
+      filled e (some (CPL t n none)) o f = f
+      filled e (some (CPL t n (some d))) o f = go (I .tickets t (and-both _ _ f .0))
         where
           go : (openAt t h ≡ v .opens t) ⊎ Apart a (v .opens t) → gave e d (openAt t h) ≡ true
           go (inl y) = rw y (and-both (v .live t) _ f .1)
@@ -306,10 +433,10 @@ module _ {T : Terms} (tags : ℕ) where
       filled e (some (DRAIN n)) o f = f
 
     -- the moment the request is accepted
-    start : (v w : View T) (x : Seen T) → Step tags v w x → (h : List (Seen T)) → Told v h
+    begins : (v w : View T) (x : Seen T) → Step tags v w x → (h : List (Seen T)) → Told v h
         → accepts i (x .took) ≡ some a
         → ((t : ℕ) → old t ≡ readIn a (openAt t h)) → Since w []
-    start v w x q h R n f = record {
+    begins v w x q h R n f = record {
       tickets = λ t l. inr (q .stale i a n t l);
       reads = λ t o. held t (rw (f t, R .opens t) at o);
     }
@@ -327,8 +454,9 @@ module _ {T : Terms} (tags : ℕ) where
 
 -- ---- every run
 
--- no request is open and no ticket waits
+-- nothing is cached, no request is open and no ticket waits
 pub record Blank {T : Terms} (v : View T) : Type 0 where
+  pub held : (j : ℕ) → v .held j ≡ none
   pub opens : (t : ℕ) → v .opens t ≡ none
   pub waiting : (i : Ticket) → v .waiting i ≡ false
 
@@ -341,25 +469,20 @@ pub record Lawful {T : Terms} {R : Observer T} (M : Machine R) : Type 1 where
   pub keeps : (s : Bench M) (c : R .Call) → resets M s c ≡ false → Ok s → Ok (next M s c)
   pub law : (s : Bench M) (c : R .Call) → resets M s c ≡ false → Ok s
       → Step (R .tags) (view s) (view (next M s c)) (seen M s c)
-  pub legible : (s : Bench M) (c : R .Call) → resets M s c ≡ false → Ok s → R .isPacket (s .notes) (packet M s c) ≡ true
+  pub legible : (s : Bench M) (c : R .Call) → resets M s c ≡ false → Ok s
+      → R .isPacket (s .notes) c (packet M s c) ≡ true
+  pub taken : (s : Bench M) (c : R .Call) → resets M s c ≡ false → Ok s → refuses M s c ≡ false
+      → R .isTaken (s .notes) c ≡ true
+  pub busy : (s : Bench M) (c : R .Call) → Ok s → (i : Ticket) (a : T .Area) → R .took (s .notes) c ≡ some (INV i a)
+      → (R .busy (M .answer (s .fn) c) ≡ true) ↔ (view s .waiting i ≡ true)
   pub apart : (s : Bench M) (c : R .Call) → resets M s c ≡ false → Ok s → (i : Ticket) (a : T .Area)
       → accepts i (seen M s c .took) ≡ some a → packet M s c ≡ []
-  pub silent : (s : Bench M) (c : R .Call) → resets M s c ≡ true → packet M s c ≡ []
+  pub written : (s : Bench M) (c : R .Call) → resets M s c ≡ false → Ok s
+      → M .buffer (s .fn) c ≡ packet M s c ++ drop (length (packet M s c)) (R .lent c)
+  pub silent : (s : Bench M) (c : R .Call) → resets M s c ≡ true
+      → (packet M s c ≡ []) × (M .buffer (s .fn) c ≡ R .lent c)
   pub reset : (s : Bench M) (c : R .Call) → resets M s c ≡ true → Ok (next M s c) × Blank (view (next M s c))
   pub new : Ok (record { fn = M .new; notes = R .atFirst }) × Blank (view (record { fn = M .new; notes = R .atFirst }))
-
--- one of the calls cs delivered the entry
-module _ {T : Terms} {R : Observer T} (M : Machine R) where
-  abbrev pub broughtIn : T .Entry → Bench M → List (R .Call) → Bool
-  broughtIn e s [] = false
-  broughtIn e s (c ∷ cs) = brings e (seen M (stateAfter M s cs) c .took) (history M s cs) || broughtIn e s cs
-
-  pub brought : (j : ℕ) (e : T .Entry) (s : Bench M) (cs : List (R .Call)) → CameFrom M j e s cs
-      → broughtIn e s cs ≡ true
-  brought j e s [] z = absurd z
-  brought j e s (c ∷ cs) (inl p) = rw p refl
-  brought j e s (c ∷ cs) (inr p) =
-      rw (brought j e s cs (p .1)) (or-true (brings e (seen M (stateAfter M s cs) c .took) (history M s cs)))
 
 module _ {T : Terms} {R : Observer T} (M : Machine R) (L : Lawful M) where
   pub ok-run : (s : Bench M) (cs : List (R .Call)) → L .Ok s → Unbroken M s cs → L .Ok (stateAfter M s cs)
@@ -370,37 +493,124 @@ module _ {T : Terms} {R : Observer T} (M : Machine R) (L : Lawful M) where
       → Step (R .tags) (L .view (stateAfter M s cs)) (L .view (next M (stateAfter M s cs) c)) (seen M (stateAfter M s cs) c)
   effect s cs c k u = L .law (stateAfter M s cs) c (u .0) (ok-run s cs k (u .1))
 
-  module _ (s : Bench M) (k : L .Ok s) where
-    -- from any state whose views agree with a history g
-    told-from : (g : List (Seen T)) → Told (R .tags) (L .view s) g → (cs : List (R .Call)) → Unbroken M s cs
+  -- what a state holds, in the machine's words and in those of its view
+  in-view : (s : Bench M) (e : T .Entry) → Holds M (s .fn) e → HeldIn (L .view s) e
+  in-view s e h = (h .0, sym (L .held s (h .0)) ∙ h .1)
+
+  of-view : (s : Bench M) (e : T .Entry) → HeldIn (L .view s) e → Holds M (s .fn) e
+  of-view s e h = (h .0, L .held s (h .0) ∙ h .1)
+
+  -- from any state whose views agree with what was seen before, g
+  module _ (s : Bench M) (k : L .Ok s) (g : List (Seen T)) (D : Told (R .tags) (L .view s) g) where
+    pub told-from : (cs : List (R .Call)) → Unbroken M s cs
         → Told (R .tags) (L .view (stateAfter M s cs)) (history M s cs ++ g)
-    told-from g D [] u = D
-    told-from g D (c ∷ cs) u = told (R .tags) _ _ (seen M (stateAfter M s cs) c) (effect s cs c k u) (history M s cs ++ g) (told-from g D cs (u .1))
+    told-from [] u = D
+    told-from (c ∷ cs) u = told (R .tags) _ _ (seen M (stateAfter M s cs) c) (effect s cs c k u) (history M s cs ++ g) (told-from cs (u .1))
+
+    summed-from : Summed (R .tags) (L .view s) g → (cs : List (R .Call)) → Unbroken M s cs
+        → Summed (R .tags) (L .view (stateAfter M s cs)) (history M s cs ++ g)
+    summed-from S [] u = S
+    summed-from S (c ∷ cs) u = summed (R .tags) _ _ (seen M (stateAfter M s cs) c) (effect s cs c k u) (history M s cs ++ g) (told-from cs (u .1)) (summed-from S cs (u .1))
+
+    -- an entry was there at the beginning, or came from a Translation Request
+    origin-from : (cs : List (R .Call)) → Unbroken M s cs → (e : T .Entry) → Holds M (stateAfter M s cs .fn) e
+        → Holds M (s .fn) e ⊎ CameFrom M e s g cs
+    origin-from [] u e h = inl h
+    origin-from (c ∷ cs) u e h = go (origin-from cs (u .1) e) (effect s cs c k u .entries (h .0) e (sym (L .held (next M (stateAfter M s cs) c) (h .0)) ∙ h .1))
+      where
+        go : (Holds M (stateAfter M s cs .fn) e → Holds M (s .fn) e ⊎ CameFrom M e s g cs)
+            → HeldIn (L .view (stateAfter M s cs)) e
+            ⊎ (fills (L .view (stateAfter M s cs)) (seen M (stateAfter M s cs) c .took) e ≡ true)
+            → Holds M (s .fn) e ⊎ CameFrom M e s g (c ∷ cs)
+        go f (inl y) = let here = of-view (stateAfter M s cs) e y in ⊎-elim inl (λ z. inr (inr (here, z))) (f here)
+        go f (inr y) =
+            inr (inl (filled-brings (R .tags) _ _ (told-from cs (u .1)) e (seen M (stateAfter M s cs) c .took) y))
 
     -- since a request with ticket i and area a
-    module _ (i : Ticket) (a : T .Area) (old : ℕ → Option (Pending T)) (g : List (Seen T)) (D : Told (R .tags) (L .view s) g)
-        (I : Since (R .tags) i a old (L .view s) []) (none-yet : (j : ℕ) (e : T .Entry) → L .view s .held j ≡ some e → T .overlaps a e ≡ false) where
+    module _ (i : Ticket) (a : T .Area) (old : ℕ → Option (Pending T))
+        (I : Since (R .tags) i a old (L .view s) []) (none-yet : (j : ℕ) (e : T .Entry) → L .view s .held j ≡ some e → T .entryIn a e ≡ false) where
       since-from : (cs : List (R .Call)) → Unbroken M s cs
           → Since (R .tags) i a old (L .view (stateAfter M s cs)) (history M s cs)
       since-from [] u = I
       since-from (c ∷ cs) u = since (R .tags) i a old _ _ (seen M (stateAfter M s cs) c) (effect s cs c k u) (history M s cs ++ g) (history M s cs)
-          (told-from g D cs (u .1)) (since-from cs (u .1))
+          (told-from cs (u .1)) (since-from cs (u .1))
 
-      came-from : (cs : List (R .Call)) → Unbroken M s cs → (j : ℕ) (e : T .Entry) → T .overlaps a e ≡ true
-          → M .held (stateAfter M s cs .fn) j ≡ some e → CameFrom M j e s cs
-      came-from [] u j e o p = no-tf (sym o ∙ none-yet j e (sym (L .held s j) ∙ p))
-      came-from (c ∷ cs) u j e o p = go (came-from cs (u .1) j e o) (effect s cs c k u .entries j e (sym (L .held (next M (stateAfter M s cs) c) j) ∙ p))
+      came-from : (cs : List (R .Call)) → Unbroken M s cs → (e : T .Entry) → T .entryIn a e ≡ true
+          → Holds M (stateAfter M s cs .fn) e → CameFrom M e s [] cs
+      came-from [] u e o h = no-tf (sym o ∙ none-yet (h .0) e (sym (L .held s (h .0)) ∙ h .1))
+      came-from (c ∷ cs) u e o h = go (came-from cs (u .1) e o) (effect s cs c k u .entries (h .0) e (sym (L .held (next M (stateAfter M s cs) c) (h .0)) ∙ h .1))
         where
-          go : (M .held (stateAfter M s cs .fn) j ≡ some e → CameFrom M j e s cs)
-              → (L .view (stateAfter M s cs) .held j ≡ some e)
+          go : (Holds M (stateAfter M s cs .fn) e → CameFrom M e s [] cs)
+              → HeldIn (L .view (stateAfter M s cs)) e
               ⊎ (fills (L .view (stateAfter M s cs)) (seen M (stateAfter M s cs) c .took) e ≡ true)
-              → CameFrom M j e s (c ∷ cs)
-          go f (inl y) = inr (L .held (stateAfter M s cs) j ∙ y, f (L .held (stateAfter M s cs) j ∙ y))
-          go f (inr y) = inl (filled (R .tags) i a old _ _ (seen M (stateAfter M s cs) c) (effect s cs c k u) (history M s cs ++ g) (history M s cs)
-              (told-from g D cs (u .1)) (since-from cs (u .1)) e (seen M (stateAfter M s cs) c .took) o y)
+              → CameFrom M e s [] (c ∷ cs)
+          go f (inl y) = let here = of-view (stateAfter M s cs) e y in inr (here, f here)
+          go f (inr y) = inl (rw append-nil (filled (R .tags) i a old _ _ (seen M (stateAfter M s cs) c) (effect s cs c k u) (history M s cs ++ g) (history M s cs)
+              (told-from cs (u .1)) (since-from cs (u .1)) e (seen M (stateAfter M s cs) c .took) o y))
+
+  module _ (s : Bench M) (k : L .Ok s) (g : List (Seen T)) (D : Told (R .tags) (L .view s) g) (S : Summed (R .tags) (L .view s) g) where
+    module _ (r : Run M s) where
+      its : Step (R .tags) (L .view (start M r)) (L .view (arrival M r)) (seenAt M r)
+      its = effect s (r .before) (r .call) k (r .unbroken)
+
+      before-told : Told (R .tags) (L .view (start M r)) (earlier M r g)
+      before-told = told-from s k g D (r .before) (r .unbroken .1)
+
+      now-told : Told (R .tags) (L .view (arrival M r)) (seenAt M r ∷ earlier M r g)
+      now-told = told-from s k g D (r .call ∷ r .before) (r .unbroken)
+
+      now-ok : L .Ok (arrival M r)
+      now-ok = ok-run s (r .call ∷ r .before) k (r .unbroken)
+
+      start-ok : L .Ok (start M r)
+      start-ok = ok-run s (r .before) k (r .unbroken .1)
+
+      module _ (i : Ticket) (a : T .Area) (z : Arrived M r i a) where
+        old : ℕ → Option (Pending T)
+        old t = readIn a (openAt t (earlier M r g))
+
+        now-since : Since (R .tags) i a old (L .view (arrival M r)) []
+        unfolding old
+        now-since = begins (R .tags) i a old _ _ (seenAt M r) its (earlier M r g) before-told z (λ t. refl)
+
+        new-entries : OnlyNewEntries M r a
+        new-entries e h o = came-from (arrival M r) now-ok (seenAt M r ∷ earlier M r g) now-told i a old now-since (its .dropped i a z) (r .since) (r .goesOn) e o h
+
+        -- an old read that is still open delays the completion
+        delays : (t : ℕ) → isOpen (remains t (later M r) (readIn a (openAt t (earlier M r g)))) ≡ true
+            → completions i (later M r) ≡ 0
+        unfolding old
+        delays t o = since-from (arrival M r) now-ok (seenAt M r ∷ earlier M r g) now-told i a old now-since (its .dropped i a z) (r .since) (r .goesOn) .reads t o .unsent
+
+        no-old-read : 0 < completions i (later M r) → NoOldRead M r g a
+        no-old-read sent t = byCases (isOpen (remains t (later M r) (readIn a (openAt t (earlier M r g)))))
+            (λ o. absurd (omega (arith, delays t o, sent))) (λ o. shut _ o)
+
+    pub letter : Letter M s g
+    letter = record {
+      entries = λ r i a z. new-entries r i a (z .0);
+      reads = λ r i a z. no-old-read r i a (z .0) (z .1);
+      counts = λ r i. now-told r .counts i;
+      sums = λ r n. summed-from s k g D S (r .call ∷ r .before) (r .unbroken) .sums n;
+      nine = λ r i a e. rw (before-told r .waiting i) (L .busy (start M r) (r .call) (start-ok r) i a e);
+    }
+
+    pub beyond : Beyond M s g
+    beyond = record {
+      sooner = new-entries;
+      origin = λ r e h. origin-from s k g D (r .call ∷ r .before) (r .unbroken) e h;
+      through = λ r b n e. let t = its r .through b n e in record { entry = t .entry; held = of-view (start M r) (t .entry) (t .held); serves = t .serves };
+      direct = λ r b n e. its r .direct b n e;
+      tags = λ r t e. (its r .unused t e .0, before-told r .opens t ∙ its r .unused t e .1);
+      legible = λ r. L .legible (start M r) (r .call) (r .unbroken .0) (start-ok r);
+      taken = λ r e. L .taken (start M r) (r .call) (r .unbroken .0) (start-ok r) e;
+      written = λ r. L .written (start M r) (r .call) (r .unbroken .0) (start-ok r);
+      apart = λ r i a z. L .apart (start M r) (r .call) (r .unbroken .0) (start-ok r) i a z;
+      agent = λ r i j m n. some-one (sym (now-told r .agent i m) ∙ now-told r .agent j n);
+    }
 
   module _ (s : Bench M) (start-ok : L .Ok s × Blank (L .view s)) where
-    told-blank : Told (R .tags) (L .view s) []
+    pub told-blank : Told (R .tags) (L .view s) []
     told-blank = record {
       opens = λ t. sym (start-ok .1 .opens t);
       inside = λ t o. no-tf (sym o ∙ ap isOpen (start-ok .1 .opens t));
@@ -411,75 +621,19 @@ module _ {T : Terms} {R : Observer T} (M : Machine R) (L : Lawful M) where
       agent = λ i h. absurd (omega (arith, h));
     }
 
-    pub told-run : (cs : List (R .Call)) → Unbroken M s cs
-        → Told (R .tags) (L .view (stateAfter M s cs)) (history M s cs)
-    told-run cs u = rw append-nil at (told-from s (start-ok .0) [] told-blank cs u)
+    summed-blank : Summed (R .tags) (L .view s) []
+    summed-blank = record { agent = λ g e. no-some e; nobody = λ e i. refl; sums = λ n. refl }
 
-    module _ (before : List (R .Call)) (c : R .Call) (since : List (R .Call)) (i : Ticket) (a : T .Area) (z : Arrived M s before c since i a) where
-      old : ℕ → Option (Pending T)
-      old t = readIn a (openAt t (history M s before))
-
-      -- the moment of the request
-      now : Bench M
-      now = stateAfter M s (c ∷ before)
-
-      its : Step (R .tags) (L .view (stateAfter M s before)) (L .view now) (seen M (stateAfter M s before) c)
-      unfolding now
-      its = effect s before c (start-ok .0) (z .unbroken)
-
-      now-since : Since (R .tags) i a old (L .view now) []
-      unfolding now old
-      now-since = start (R .tags) i a old _ _ (seen M (stateAfter M s before) c) its (history M s before) (told-run before (z .unbroken .1)) (z .accepted) (λ t. refl)
-
-      now-told : Told (R .tags) (L .view now) (history M s (c ∷ before))
-      unfolding now
-      now-told = told-run (c ∷ before) (z .unbroken)
-
-      now-ok : L .Ok now
-      unfolding now
-      now-ok = ok-run s (c ∷ before) (start-ok .0) (z .unbroken)
-
-      new-entries : OnlyNewEntries M s before c since a
-      unfolding now
-      new-entries j e p o = came-from now now-ok i a old (history M s (c ∷ before)) now-told now-since (its .dropped i a (z .accepted)) since (z .goesOn) j e o p
-
-      -- an old read that is still open delays the completion
-      held-back : (t : ℕ)
-          → isOpen (remains t (history M (stateAfter M s (c ∷ before)) since) (readIn a (openAt t (history M s before)))) ≡ true
-          → completions i (history M (stateAfter M s (c ∷ before)) since) ≡ 0
-      unfolding now old
-      held-back t o = now-end .reads t o .unsent
-        where
-          now-end : Since (R .tags) i a old (L .view (stateAfter M now since)) (history M now since)
-          now-end = since-from now now-ok i a old (history M s (c ∷ before)) now-told now-since (its .dropped i a (z .accepted)) since (z .goesOn)
-
-    no-old-read : (before : List (R .Call)) (c : R .Call) (since : List (R .Call)) (i : Ticket) (a : T .Area)
-        → Completed M s before c since i a → NoOldRead M s before c since a
-    no-old-read before c since i a z t = byCases (isOpen (remains t (history M (stateAfter M s (c ∷ before)) since) (readIn a (openAt t (history M s before)))))
-        (λ o. absurd (omega (arith, held-back before c since i a (z .arrived) t o, z .sent))) (λ o. shut _ o)
-
-    one-agent : (cs : List (R .Call)) → Unbroken M s cs → (i k : Ticket) → 0 < requests i (history M s cs)
-        → 0 < requests k (history M s cs) → i .agent ≡ k .agent
-    one-agent cs u i k m n = some-one (sym (told-run cs u .agent i m) ∙ told-run cs u .agent k n)
-
-    served : (cs : List (R .Call)) (c : R .Call) → Unbroken M s (c ∷ cs) → (b : T .Access) (k : ℕ)
-        → reaches (seen M (stateAfter M s cs) c .sent) ≡ some (b, k) → Served M (stateAfter M s cs .fn) b k
-    served cs c u b k e =
-        let t = effect s cs c (start-ok .0) u .through b k e in
-        record { slot = t .slot; entry = t .entry; held = L .held (stateAfter M s cs) (t .slot) ∙ t .held; serves = t .serves }
-
-    pub order-from : OrderFrom M s
-    order-from = record {
-      entries = λ before c since i a z. new-entries before c since i a (z .arrived);
-      reads = no-old-read;
-      counts = λ cs u i. told-run cs u .counts i;
-      agent = one-agent;
-      sooner = new-entries;
-      through = served;
-      tags = λ cs c u t e. (effect s cs c (start-ok .0) u .unused t e .0, told-run cs (u .1) .opens t ∙ effect s cs c (start-ok .0) u .unused t e .1);
-      legible = λ cs c u. L .legible (stateAfter M s cs) c (u .0) (ok-run s cs (start-ok .0) (u .1));
-      apart = λ cs c u. L .apart (stateAfter M s cs) c (u .0) (ok-run s cs (start-ok .0) (u .1));
+    pub starts : Starts M s
+    starts = record {
+      empty = λ e h. no-some (sym (start-ok .1 .held (h .0)) ∙ (sym (L .held s (h .0)) ∙ h .1));
+      letter = letter s (start-ok .0) [] told-blank summed-blank;
+      beyond = beyond s (start-ok .0) [] told-blank summed-blank;
     }
 
   pub order : Order M
-  order = record { silent = L .silent; reset = λ s c e. order-from (next M s c) (L .reset s c e); new = order-from _ (L .new) }
+  order = record {
+    reset = λ s c e. starts (next M s c) (L .reset s c e);
+    new = starts _ (L .new);
+    silent = L .silent;
+  }

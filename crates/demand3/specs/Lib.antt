@@ -1,1 +1,5 @@
-pub mod Demand
+pub mod Terms
+pub mod Seen
+pub mod History
+pub mod Runs
+pub mod Order

@@ -29,9 +29,10 @@ use Rattle.translations.specs.Fills.{allowsAccess, regionIndex}
 use Rattle.translations.proofs.Laws.{Brought}
 use Rattle.state.specs.declared.Function.{Function}
 use Rattle.lemmas.proofs.Bools.{no-tf, no-some, beq-same}
-use Rattle.demand3.specs.Demand.{CPL, isOpen, leaves}
-use Rattle.demand3.proofs.Laws.{Step, fills}
-use Rattle.demands.specs.Demands.{Cached, Reply, terms, Noted, itag, isGiven, isReplied, sameEntry, heldIn}
+use Rattle.demand3.specs.Seen.{CPL}
+use Rattle.demand3.specs.History.{isOpen, leaves}
+use Rattle.demand3.proofs.Laws.{Step, fills, HeldIn}
+use Rattle.demands.specs.Observed.{Cached, Reply, terms, Noted, itag, isGiven, isReplied, sameEntry, heldIn}
 use Rattle.demands.proofs.Views.{tag, askedBy, pendingOf, liveOf, view, Ok}
 use Rattle.demands.proofs.Tags.{left, at-own, at-other}
 use Rattle.tlp.proofs.Qwords.{base-lt}
@@ -78,12 +79,12 @@ module _ (me : Noted) (f : Function) (o : Ok me f) (t : Tag) (own : isTag t ≡ 
 
   -- what it does to E and the cache, and the new state of the tag
   module _ (enabled : Bool) (cache : Cache) (after : TagState) where
-    pub left-step : (d : Option Reply) → pendingOf after ≡ leaves d (pendingOf b)
+    pub left-step : (n : ℕ) (d : Option Reply) → pendingOf after ≡ leaves d (pendingOf b)
         → (liveOf after ≡ true → liveOf b ≡ true)
         → ((i : ITag) → isIn (delayedBy after) i ≡ (isOpen (leaves {T = terms} d (pendingOf b)) && isIn (delayedBy b) i))
-        → ((j : ℕ) (e : Cached) → heldIn (left f t enabled cache after) j ≡ some e → (heldIn f j ≡ some e) ⊎ (fills (view f) (some (CPL (t .0) d)) e ≡ true))
-        → Step 32 (view f) (view (left f t enabled cache after)) (record { took = some (CPL (t .0) d); sent = none })
-    left-step d opened lived noted entries =
+        → ((j : ℕ) (e : Cached) → heldIn (left f t enabled cache after) j ≡ some e → HeldIn (view f) e ⊎ (fills (view f) (some (CPL (t .0) n d)) e ≡ true))
+        → Step 32 (view f) (view (left f t enabled cache after)) (record { took = some (CPL (t .0) n d); sent = none })
+    left-step n d opened lived noted entries =
         record {
           opens = λ u. byCases (eqb u (t .0))
               (λ e. ap pendingOf (at-own me f o t own after (tag u) e) ∙ opened ∙ sym (rw e (ap (λ (x : TagState). leaves d (pendingOf x)) (was (tag u) e))))
@@ -92,6 +93,7 @@ module _ (me : Noted) (f : Function) (o : Ok me f) (t : Tag) (own : isTag t ≡ 
           live = λ u l. inl (byCases (eqb u (t .0)) (λ e. ap liveOf (was (tag u) e) ∙ lived (sym (ap liveOf (at-own me f o t own after (tag u) e)) ∙ l)) (λ e. sym (ap liveOf (at-other me f o t own after (tag u) e)) ∙ l));
           entries = entries;
           through = λ b k e. no-some e;
+          direct = λ b k e. no-some e;
           waiting = λ i. refl;
           waitsFor = λ i u w. byCases (eqb u (t .0))
               (λ e. ap (λ (x : TagState). isIn (delayedBy x) (itag (i .number))) (at-own me f o t own after (tag u) e) ∙ noted (itag (i .number)) ∙ sym (rw (e, was (tag u) e) (ap (λ (x : Bool). x && isIn (delayedBy b) (itag (i .number))) (twice (isOpen (leaves {T = terms} d (pendingOf b)))))))

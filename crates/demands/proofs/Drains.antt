@@ -28,11 +28,12 @@ use Rattle.state.proofs.Laws.{Does}
 use Rattle.call_send.specs.Drain.{agentId, invalidateCompletionPacket, readyOf}
 use Rattle.card.specs.declared.Command.the-variants.{Drain}
 use Rattle.lemmas.proofs.Bools.{no-tf, no-some}
-use Rattle.demand3.specs.Demand.{Ticket, noneBelow, DRAIN, IC}
+use Rattle.demand3.specs.Seen.{Ticket, DRAIN, IC}
+use Rattle.demand3.specs.History.{noneBelow}
 use Rattle.demand3.proofs.Laws.{Step}
 use Rattle.demand3.proofs.Theorem.{none-not}
 use Rattle.tlp.specs.Bytes.{areBytes}
-use Rattle.demands.specs.Demands.{isTyped, Call, Noted, itag, isListed}
+use Rattle.demands.specs.Observed.{isTyped, Call, Noted, itag, isListed}
 use Rattle.demands.proofs.Views.{own-packet, tag, isAgent, view, Ok, Good, good-plain, good-send}
 use lib.Count.{ones}
 use Rattle.state.specs.Answers.{sendsNothing, sends, carries}
@@ -126,8 +127,9 @@ module _ (me : Noted) (f : Function) (o : Ok me f) (bytes out : List ℕ) (ty : 
         opens = λ t. refl;
         unused = λ t e. no-tf (sym e);
         live = λ t e. inl e;
-        entries = λ j e h. inl h;
+        entries = λ j e h. inl (j, h);
         through = λ b k e. no-some e;
+        direct = λ b k e. no-some e;
         waiting = λ i. refl;
         waitsFor = λ i t e. refl;
         carried = λ i. sym (ap (λ (x : Bool). view f .waiting i && x) (waits-for-none i) ∙ sym (regroup (isAgent (f .agent) (i .agent)) (ltb (i .number) 32) (isIn (f .waiting) (itag (i .number))) (isIn (delayedItags (f .tags)) (itag (i .number))))
@@ -146,8 +148,9 @@ module _ (me : Noted) (f : Function) (o : Ok me f) (bytes out : List ℕ) (ty : 
         opens = λ t. refl;
         unused = λ t e. no-tf (sym e);
         live = λ t e. inl e;
-        entries = λ j e h. inl h;
+        entries = λ j e h. inl (j, h);
         through = λ b k e. no-some e;
+        direct = λ b k e. no-some e;
         waiting = λ i. rw (left-in (itag (i .number)), ready-in (itag (i .number))) (stays-by (f .agent) refl i);
         waitsFor = λ i t e. refl;
         carried = λ i. rw (ready-in (itag (i .number)), waits-for-none i) (carries-by (f .agent) refl i);
@@ -174,6 +177,7 @@ module _ (me : Noted) (f : Function) (o : Ok me f) (bytes out : List ℕ) (ty : 
   pub good-idle : eqb (readyOf f) 0 ≡ true → Does (Good me f drain-call) (sendsNothing f (carries 0))
   good-idle e = good-plain me f drain-call _ _ o (idle-step (eqb-true (readyOf f) 0 e))
 
-  pub good-drain : Does (Good me f drain-call) (sends left (carries (ones (readyOf f))) (invalidateCompletionPacket (f .id) (f .agent) (readyOf f)) [] out)
-  good-drain =
-      good-send me f drain-call _ _ (invalidateCompletionPacket (f .id) (f .agent) (readyOf f)) [] (typed-completion (headOf (f .id)) (o .id) _ (o .agent) (omega (arith, o .vector, without-le (f .waiting) (delayedItags (f .tags))))) (own-packet me (invalidateCompletionPacket (f .id) (f .agent) (readyOf f)) (o .own) refl refl) left-ok (λ i. refl) sent-step
+  pub good-drain : eqb (readyOf f) 0 ≡ false
+      → Does (Good me f drain-call) (sends left (carries (ones (readyOf f))) (invalidateCompletionPacket (f .id) (f .agent) (readyOf f)) [] out)
+  good-drain ready =
+      good-send me f drain-call _ _ (invalidateCompletionPacket (f .id) (f .agent) (readyOf f)) [] (typed-completion (headOf (f .id)) (o .id) _ (o .agent) (omega (arith, o .vector, without-le (f .waiting) (delayedItags (f .tags))))) (own-packet me (invalidateCompletionPacket (f .id) (f .agent) (readyOf f)) (o .own) refl (rw ready refl)) left-ok (λ i. refl) sent-step

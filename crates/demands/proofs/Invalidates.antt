@@ -27,9 +27,10 @@ use Rattle.state.specs.declared.Agent.{Agent}
 use Rattle.state.specs.declared.Agent.the-variants.{Unknown, Known}
 use Rattle.on_invalidate.specs.Invalidate.{invalidatedRange, isOtherAgent, invalidatedBy}
 use Rattle.lemmas.proofs.Bools.{no-tf, no-some}
-use Rattle.demand3.specs.Demand.{Ticket, same, given, INV, isOpen, readIn}
+use Rattle.demand3.specs.Seen.{Ticket, same, INV}
+use Rattle.demand3.specs.History.{given, isOpen, readIn}
 use Rattle.demand3.proofs.Laws.{Step}
-use Rattle.demands.specs.Demands.{Cached, terms, Noted, itag, isListed, heldIn}
+use Rattle.demands.specs.Observed.{Cached, terms, Noted, itag, isListed, heldIn}
 use Rattle.demands.proofs.Views.{tag, pendingOf, liveOf, agentOf, isAgent, view, Ok, no-entry}
 use Rattle.demands.proofs.Marks.{invalidate-pending, invalidate-live, invalidate-delayed, invalidate-apart}
 
@@ -202,8 +203,9 @@ module _ (me : Noted) (f : Function) (o : Ok me f) (from : ℕ) (i : InvalidateR
         opens = λ t. ap pendingOf (at-tag (tag t)) ∙ invalidate-pending range (i .itag) (tagState (f .tags) (tag t));
         unused = λ t e. no-tf (sym e);
         live = λ t l. inl (invalidate-live range (i .itag) (tagState (f .tags) (tag t)) (sym (ap liveOf (at-tag (tag t))) ∙ l) .0);
-        entries = λ j e h. inl (kept j e h);
+        entries = λ j e h. inl (j, kept j e h);
         through = λ b k e. no-some e;
+        direct = λ b k e. no-some e;
         waiting = gone-waiting;
         waitsFor = λ k t e. delayed-then k t e;
         carried = λ k. refl;

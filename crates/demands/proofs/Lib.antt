@@ -1,4 +1,5 @@
 pub mod Views
+pub mod Taken
 pub mod Tags
 pub mod Marks
 pub mod Sends
@@ -6,6 +7,6 @@ pub mod Drains
 pub mod Invalidates
 pub mod Completions
 pub mod Receives
-pub mod Order
 pub mod Nine
+pub mod Order
 pub mod Proved

@@ -9,6 +9,7 @@ use borrow.Author.Tests.{eqb-true, leb-true, le-leb}
 use Rattle.lemmas.proofs.Cases.{byCases, and-both, never-both, is-false}
 use Rattle.ranges.specs.declared.Range.{Range}
 use Rattle.ranges.specs.Range.{overlaps, unitExponent, regionOf, isWithin}
+use Rattle.ranges.proofs.Units.{within-overlaps}
 use Rattle.packet.specs.declared.ITag.{ITag}
 use Rattle.tags.specs.declared.TagState.{TagState}
 use Rattle.tags.specs.declared.TagState.the-variants.{Free, Translate, Read}
@@ -17,9 +18,9 @@ use Rattle.tags.specs.Itags.{bitIndex, isIn}
 use Rattle.tags.proofs.Laws.{in-withItag, in-none, translationRange-units, overlaps-translation, overlaps-read, invalidatedIf}
 use Rattle.tags.specs.Tags.{translationRange, delayedBy, pendingOverlaps, staleTranslation, invalidatedState, staleState}
 use Rattle.lemmas.proofs.Bools.{no-tf}
-use Rattle.demand3.specs.Demand.{translation, isOpen, readIn}
+use Rattle.demand3.specs.History.{translation, isOpen, readIn}
 use Rattle.demand3.proofs.Laws.{Apart}
-use Rattle.demands.specs.Demands.{Cached, Reply, terms, isReplied}
+use Rattle.demands.specs.Observed.{Cached, Reply, terms, isReplied}
 use Rattle.demands.proofs.Views.{askedBy, pendingOf, liveOf}
 
 -- ---- setting E: every Translation Request becomes stale
@@ -44,14 +45,6 @@ stale-delayed (Translate q) = refl
 stale-delayed (Read r) = refl
 
 -- ---- an Invalidate Request
-
--- a range that contains an overlapping range overlaps too
-within-overlaps : (a b c : Range) → isWithin a b ≡ true → overlaps a c ≡ true → overlaps b c ≡ true
-within-overlaps a b c w m =
-    let x = and-both (leb (b .first) (a .first)) (leb (a .last) (b .last)) w in
-    let y = and-both (leb (a .first) (c .last)) (leb (c .first) (a .last)) m in
-    rw (le-leb (b .first) (c .last) (omega (arith, leb-true (b .first) (a .first) (x .0), leb-true (a .first) (c .last) (y .0))))
-    (le-leb (c .first) (b .last) (omega (arith, leb-true (a .last) (b .last) (x .1), leb-true (c .first) (a .last) (y .1))))
 
 module _ (range : Range) (i : ITag) where
   pub invalidate-pending : (o : TagState) → pendingOf (invalidatedIf range i o) ≡ pendingOf o
@@ -100,7 +93,7 @@ module _ (range : Range) (i : ITag) where
       go (Translate q) u = λ k d x g. is-false _ (λ m. outside k d x g m)
         where
           outside : (k : ℕ) (d : Reply) (x : Cached) → isReplied (askedBy q) k d x ≡ true
-              → terms .overlaps range x ≡ true → ⊥
+              → terms .entryIn range x ≡ true → ⊥
           outside k d x g m =
               let a = and-both (eqb (x .stu) (q .stu)) _ g in
               let s : x .stu ≡ q .stu = eqb-true (x .stu) (q .stu) (a .0) in

@@ -1,65 +1,107 @@
--- An Invalidate Request is refused with 9 if and only if its ITag waits, as computed from the history.
+-- An Invalidate Request is refused with 9 exactly while its ticket waits.
 use mathlib.Core.Path.{_≡_, refl, sym, _∙_}
 use mathlib.Core.Logic.{_↔_}
 use mathlib.Core.Bool.{true, false, not, cond, _&&_}
 use mathlib.Core.List.{List}
+use mathlib.Core.Option.{Option, none, some}
 use Prim.Native.Nat.{ℕ}
-use native.Mathlib.Omega.{arith}
 use lib.Dec.{eqb}
 use borrow.Author.Tests.{eqb-true, eq-eqb, lt-ltb}
 use Rattle.lemmas.proofs.Cases.{byCases, never-both, impossible}
+use Rattle.lemmas.proofs.Bools.{no-tf, no-some}
+use Rattle.ranges.specs.declared.Range.{Range}
 use Rattle.packet.specs.declared.InvalidateRequest.{InvalidateRequest}
-use Rattle.packet.specs.Numbers.{refusal}
+use Rattle.packet.specs.declared.Packet.{Packet}
+use Rattle.packet.specs.declared.Outcome.{Outcome}
+use Rattle.packet.specs.declared.Outcome.the-variants.{Data, Status}
+use Rattle.packet.specs.declared.Body.{Body}
+use Rattle.packet.specs.declared.Body.the-variants.{Tr, Mem, Cpl, Inv, Ic, Prq, Prs}
+use Rattle.packet.specs.Numbers.{Result, ok, refusal}
+use Rattle.packet.specs.Reading.{reading, payloadIn}
 use Rattle.tags.specs.Itags.{bitIndex, isIn}
 use Rattle.tags.proofs.Laws.{in-bitIndex}
 use Rattle.state.specs.declared.Function.{Function}
 use Rattle.state.specs.declared.Agent.{Agent}
 use Rattle.state.specs.declared.Agent.the-variants.{Unknown, Known}
-use Rattle.state.specs.State.{fresh, rcbOf}
 use Rattle.state.specs.Answers.{commit, sendsNothing, done}
 use Rattle.on_invalidate.specs.Invalidate.{isOtherAgent, invalidatedBy, invalidated}
 use Rattle.call_receive.specs.Receive.{taken, received}
-use Rattle.card.specs.Call.{calling}
-use Rattle.lemmas.proofs.Bools.{no-tf}
-use Rattle.demand3.specs.Demand.{Bench, next, resets, stateAfter}
-use Rattle.demand3.proofs.Theorem.{Blank}
-use Rattle.demands.specs.Demands.{Call, Noted, card, isListed, itag, NineWhileWaiting}
+use Rattle.card.specs.declared.Command.{Command}
+use Rattle.card.specs.declared.Command.the-variants.{Reset, Enable, Disable, Ask as Asks, Access as Accesses, Receive, Drain, PagesOn, PagesOff, PageRequest}
+use Rattle.card.specs.Call.{calling, step}
+use Rattle.demand3.specs.Seen.{Ticket, Taken, CPL, INV}
+use Rattle.demands.specs.Observed.{terms, Noted, isRefusedWith, isListed, outcomeTaken, bodyTaken, packetTaken, callTaken}
 use Rattle.demands.proofs.Views.{isAgent, view, Ok}
 use Rattle.demands.proofs.Invalidates.{place-lt}
-use Rattle.demands.proofs.Order.{lawful, ran-ok, ran-waits}
 
 module _ (me : Noted) (f : Function) (o : Ok me f) (out : List ℕ) (from : ℕ) (i : InvalidateRequest) where
   listed : isListed (f .waiting) (bitIndex (i .itag)) ≡ isIn (f .waiting) (i .itag)
   listed = rw (lt-ltb (bitIndex (i .itag)) 32 (place-lt (i .itag))) (in-bitIndex (f .waiting) (i .itag))
 
-  nine : (commit f out (invalidated f from i) .answer ≡ refusal 9)
+  nine : (isRefusedWith 9 (commit f out (invalidated f from i) .answer) ≡ true)
       ↔ ((isAgent (f .agent) from && isListed (f .waiting) (bitIndex (i .itag))) ≡ true)
   unfolding invalidated
   nine = rw listed (go (f .agent) refl)
     where
       go : (g : Agent) → f .agent ≡ g
-          → (commit f out (cond (isOtherAgent g from) (refusal 10) (cond (isIn (f .waiting) (i .itag)) (refusal 9) (sendsNothing (invalidatedBy f from i) done))) .answer ≡ refusal 9) ↔ ((isAgent g from && isIn (f .waiting) (i .itag)) ≡ true)
-      go Unknown e = byCases (isIn (f .waiting) (i .itag)) (λ w. absurd (o .known (i .itag) w e)) (λ w. rw w (λ h. impossible cc, λ h. no-tf (sym h)))
-      go (Known id) e = byCases (eqb id from) (λ u. ours (eqb-true id from u)) (λ u. rw (u, other u) (λ h. let z : _≡_ {A = ℕ} 10 9 = cc in absurd (omega arith), λ h. no-tf (sym h)))
+          → (isRefusedWith 9 (commit f out (cond (isOtherAgent g from) (refusal 10) (cond (isIn (f .waiting) (i .itag)) (refusal 9) (sendsNothing (invalidatedBy f from i) done))) .answer) ≡ true) ↔ ((isAgent g from && isIn (f .waiting) (i .itag)) ≡ true)
+      go Unknown e = byCases (isIn (f .waiting) (i .itag)) (λ w. absurd (o .known (i .itag) w e)) (λ w. rw w (λ h. no-tf (sym h), λ h. no-tf (sym h)))
+      go (Known id) e = byCases (eqb id from) (λ u. ours (eqb-true id from u)) (λ u. rw (u, other u) (λ h. no-tf (sym h), λ h. no-tf (sym h)))
         where
           other : eqb id from ≡ false → eqb from id ≡ false
           other u =
               byCases (eqb from id) (λ v. absurd (never-both _ (eq-eqb id from (sym (eqb-true from id v))) u)) (λ v. v)
 
           ours : id ≡ from
-              → (commit f out (cond (not (eqb id from)) (refusal 10) (cond (isIn (f .waiting) (i .itag)) (refusal 9) (sendsNothing (invalidatedBy f from i) done))) .answer ≡ refusal 9) ↔ ((eqb from id && isIn (f .waiting) (i .itag)) ≡ true)
-          ours s = rw (s, eq-eqb from from refl) (byCases (isIn (f .waiting) (i .itag)) (λ w. rw w (λ h. refl, λ h. refl)) (λ w. rw w (λ h. impossible cc, λ h. no-tf (sym h))))
+              → (isRefusedWith 9 (commit f out (cond (not (eqb id from)) (refusal 10) (cond (isIn (f .waiting) (i .itag)) (refusal 9) (sendsNothing (invalidatedBy f from i) done))) .answer) ≡ true) ↔ ((eqb from id && isIn (f .waiting) (i .itag)) ≡ true)
+          ours s = rw (s, eq-eqb from from refl) (byCases (isIn (f .waiting) (i .itag)) (λ w. rw w (λ h. refl, λ h. refl)) (λ w. rw w (λ h. no-tf (sym h), λ h. no-tf (sym h))))
 
-nine-run : (begin : Bench card) → lawful .Ok begin × Blank (lawful .view begin) → NineWhileWaiting begin
-unfolding calling received taken
-nine-run begin b calls u bytes out p i e is dev =
-    let o = ran-ok begin b calls u in
-    let n = nine (stateAfter card begin calls .notes) (stateAfter card begin calls .fn) o out (p .head .sender) i in
-    rw (e, is, eq-eqb (i .device) (stateAfter card begin calls .fn .id) (dev ∙ sym (o .own)), ran-waits begin b calls u (record { agent = p .head .sender; number = bitIndex (i .itag) })) n
+-- an Invalidate Request for the Function is refused with 9 exactly while its ticket waits
+module _ (me : Noted) (f : Function) (o : Ok me f) (bytes out : List ℕ) (i : Ticket) (a : Range) where
+  abbrev Busy : Type 0
+  Busy = (isRefusedWith 9 (step f Receive bytes out .answer) ≡ true) ↔ (view f .waiting i ≡ true)
 
--- from any accepted reset, and from a new Function
-pub nine-while-waiting : (s : Bench card) (c : Call) → resets card s c ≡ true → NineWhileWaiting (next card s c)
-nine-while-waiting s c e = nine-run (next card s c) (lawful .reset s c e)
+  of-body : (p : Packet) → reading bytes ≡ ok p → (b : Body) → p .body ≡ b
+      → bodyTaken me (payloadIn bytes) (p .head .sender) b ≡ some (INV i a) → Busy
+  unfolding calling received taken
+  of-body p r (Tr t) is e = no-some e
+  of-body p r (Mem m) is e = no-some e
+  of-body p r (Cpl c) is e =
+      byCases (eqb (c .requester) (me .id)) (λ u. of-outcome (c .outcome) (rw u at e)) (λ u. no-some (rw u at e))
+    where
+      of-outcome : (x : Outcome) → outcomeTaken (c .tag .0) (c .count) (payloadIn bytes) x ≡ some (INV i a) → Busy
+      of-outcome (Data n) e = impossible cc
+      of-outcome (Status n) e = byCases (eqb n 0) (λ u. no-some (rw u at e)) (λ u. not-this n (rw u at e))
+        where
+          not-this : (n : ℕ) → _≡_ {A = Option (Taken terms)} (some (CPL (c .tag .0) n none)) (some (INV i a)) → Busy
+          not-this n e = impossible cc
+  of-body p r (Inv v) is e =
+      byCases (eqb (v .device) (me .id))
+      (λ u. let k = nine me f o out (p .head .sender) v in
+      let same : record { agent = p .head .sender; number = bitIndex (v .itag) } ≡ i = ticket-is (rw u at e) in
+      rw (r, is, rw (← o .own) at u, ← same) k)
+      (λ u. no-some (rw u at e))
+    where
+      ticket-is : {x : Ticket} {y : Range} → _≡_ {A = Option (Taken terms)} (some (INV x y)) (some (INV i a)) → x ≡ i
+      ticket-is e = cc
+  of-body p r (Ic c) is e = no-some e
+  of-body p r (Prq c) is e = no-some e
+  of-body p r (Prs c) is e = no-some e
 
-pub nine-while-waiting-new : NineWhileWaiting (record { fn = fresh 0 0 (rcbOf 64); notes = record { id = 0; stu = 0 } })
-nine-while-waiting-new = nine-run _ (lawful .new)
+  of-reading : (x : Result Packet) → reading bytes ≡ x → packetTaken me (payloadIn bytes) x ≡ some (INV i a) → Busy
+  of-reading (ok p) r e = of-body p r (p .body) refl e
+  of-reading (refusal n) r e = no-some e
+
+pub busy-law : (me : Noted) (f : Function) → Ok me f → (x : Command) (bytes out : List ℕ) (i : Ticket) (a : Range)
+    → callTaken me x bytes ≡ some (INV i a)
+    → (isRefusedWith 9 (step f x bytes out .answer) ≡ true) ↔ (view f .waiting i ≡ true)
+busy-law me f o (Reset y) bytes out i a e = no-some e
+busy-law me f o Enable bytes out i a e = no-some e
+busy-law me f o Disable bytes out i a e = no-some e
+busy-law me f o (Asks y) bytes out i a e = no-some e
+busy-law me f o (Accesses y) bytes out i a e = no-some e
+busy-law me f o Receive bytes out i a e = of-reading me f o bytes out i a (reading bytes) refl e
+busy-law me f o Drain bytes out i a e = impossible cc
+busy-law me f o (PagesOn n) bytes out i a e = no-some e
+busy-law me f o PagesOff bytes out i a e = no-some e
+busy-law me f o (PageRequest q) bytes out i a e = no-some e

@@ -1,17 +1,18 @@
 -- The card satisfies demand 3.
 use mathlib.Core.Path.{_≡_, refl, sym, ap, _∙_}
 use mathlib.Core.Bool.{Bool, true, false, not, cond, _&&_}
-use mathlib.Core.List.{List, []}
+use mathlib.Core.List.{List, [], _++_}
 use mathlib.Core.Option.{none, some}
 use Prim.Native.Nat.{ℕ, _^_, _<_}
 use lib.Dec.{leb, lit≤}
-use lib.ListN.{take}
+use lib.ListN.{length, drop, take}
 use borrow.Author.Tests.{ltb-true}
 use Rattle.lemmas.proofs.Cases.{byCases, and-both, never-both, impossible}
 use Rattle.ranges.specs.declared.Range.{Range}
 use Rattle.packet.specs.Numbers.{Result, ok, refusal}
 use Rattle.packet.specs.Reading.{reading}
 use Rattle.tlp.proofs.Laws.{nothing-reads}
+use Rattle.atc.specs.Cache.{entryAt, blank}
 use Rattle.atc.proofs.Laws.{laws}
 use Rattle.tags.specs.declared.TagState.{TagState}
 use Rattle.tags.specs.declared.TagState.the-variants.{Free, Translate}
@@ -28,14 +29,19 @@ use Rattle.card.specs.declared.Command.{Command}
 use Rattle.card.specs.declared.Command.the-variants.{Reset, Enable, Disable, Ask as Asks, Access as Accesses, Receive, Drain, PagesOn, PagesOff, PageRequest}
 use Rattle.card.specs.Call.{calling, step}
 use Rattle.lemmas.proofs.Bools.{no-tf}
-use Rattle.demand3.specs.Demand.{Ticket, accepts, waits, Bench, resets, stateAfter, history, Unbroken, Order}
+use Rattle.demand3.specs.Seen.{Ticket}
+use Rattle.demand3.specs.History.{accepts, waits}
+use Rattle.demand3.specs.Runs.{Bench, resets, stateAfter, history, Unbroken}
+use Rattle.demand3.specs.Order.{Order}
 use Rattle.demand3.proofs.Laws.{Step}
-use Rattle.demand3.proofs.Theorem.{Blank, Lawful, ok-run, told-run, order}
+use Rattle.demand3.proofs.Theorem.{Blank, Lawful, order}
 use Rattle.tlp.specs.Bytes.{areBytes}
-use Rattle.demands.specs.Demands.{isTyped, Call, isRefused, isReset, Noted, notedAfter, callTaken, packetSent, isPacket, card}
-use Rattle.demands.proofs.Views.{tag, pendingOf, view, Ok, Good, good-plain, quiet}
+use Rattle.demands.specs.Observed.{isTyped, Call, isRefused, isReset, Noted, notedAfter, callTaken, packetSent, isPacket, card}
+use Rattle.demands.proofs.Views.{tag, pendingOf, view, Ok, Good, good-plain, quiet, no-entry}
 use Rattle.demands.proofs.Sends.{same-ok, good-enable, good-ask, good-read, good-write, good-page}
 use Rattle.demands.proofs.Drains.{good-idle, good-drain}
+use Rattle.demands.proofs.Taken.{taken-law}
+use Rattle.demands.proofs.Nine.{busy-law}
 use Rattle.demands.proofs.Receives.{good-ends, good-goes-on, good-fails, good-aborts, good-switches, good-off, good-first, good-first-dead, good-last, good-last-dead, good-invalidate, good-response}
 use Rattle.pages.specs.Pages.{switchedOn, switchedOff}
 use Rattle.card.proofs.Cases.{Cases, cases}
@@ -66,7 +72,7 @@ module _ (me : Noted) (f : Function) (o : Ok me f) where
           read = λ a at t w l e ty u. good-read me f o a bytes out ty are at t w l e;
           write = λ a at w l ty u. good-write me f o a bytes out ty are at w l;
           drainsNone = λ z ty u. good-idle me f o bytes out ty are z;
-          drains = λ ty u. good-drain me f o bytes out ty are;
+          drains = λ z ty u. good-drain me f o bytes out ty are z;
           page = λ q e s ty u. good-page me f o q bytes out ty are;
           readEnds = λ x r n a h d c z ty u. good-ends me f o bytes out ty are x a r h n d c z;
           readGoesOn = λ x r n a h d c l z ty u. good-goes-on me f o bytes out ty are x a r h n d c l z;
@@ -97,15 +103,16 @@ module _ (me : Noted) (f : Function) (o : Ok me f) where
           sent = packetSent (me .stu) (c .command) (reading (take (r .sent) (r .buffer)));
         })
     pub legible : isPacket me (take (r .sent) (r .buffer)) ≡ true
+    pub written : r .buffer ≡ take (r .sent) (r .buffer) ++ drop (length (take (r .sent) (r .buffer))) (c .out)
     pub apart : (i : Ticket) (a : Range)
         → accepts i (cond (isRefused (r .answer)) none (callTaken me (c .command) (c .bytes))) ≡ some a
         → take (r .sent) (r .buffer) ≡ []
 
   done : (c : Call) (s : Result Success) → Does (Good me f c) s → Done c (commit f (c .out) s)
   done c (ok d) h =
-      let g = h .success d refl in record { ok = g .ok; step = g .step; legible = g .legible; apart = g .apart }
+      let g = h .success d refl in record { ok = g .ok; step = g .step; legible = g .legible; written = g .written; apart = g .apart }
   done c (refusal n) h =
-      record { ok = o; step = rw nothing-reads (quiet (view f)); legible = refl; apart = λ i a e. refl }
+      record { ok = o; step = rw nothing-reads (quiet (view f)); legible = refl; written = refl; apart = λ i a e. refl }
 
 -- ---- a Function after a reset, or new
 
@@ -126,7 +133,7 @@ fresh-ok id stu rcb h =
     }
 
 fresh-blank : (id stu : ℕ) (rcb : Rcb) → Blank (view (fresh id stu rcb))
-fresh-blank id stu rcb = record { opens = λ t. ap pendingOf (free-tagState (tag t)); waiting = λ i. refl }
+fresh-blank id stu rcb = record { held = λ j. no-entry stu (entryAt blank j) (laws .new-entry j); opens = λ t. ap pendingOf (free-tagState (tag t)); waiting = λ i. refl }
 
 -- ---- every run
 
@@ -149,18 +156,19 @@ after-call : (s : Bench card) (c : Call) → resets card s c ≡ false → (o : 
 after-call s c u o = done (s .notes) (s .fn) o c (calling (s .fn) (c .command) (c .bytes) (c .out)) (good (s .notes) (s .fn) o (c .command) (c .bytes) (c .out) (c .typed) (c .octets) u)
 
 -- an accepted reset leaves a fresh Function, and sends nothing
-pub record Afresh (me : Noted) (r : Observed) : Type 0 where
+pub record Afresh (me : Noted) (out : List ℕ) (r : Observed) : Type 0 where
   pub ok : Ok me (r .state)
   pub blank : Blank (view (r .state))
   pub silent : take (r .sent) (r .buffer) ≡ []
+  pub unwritten : r .buffer ≡ out
 
 after-reset : (f : Function) (me : Noted) (x : Command) (bytes out : List ℕ) → isTyped x ≡ true
     → not (isRefused (step f x bytes out .answer)) ≡ true → isReset x ≡ true
-    → Afresh (cond (isRefused (step f x bytes out .answer)) me (notedAfter me x)) (step f x bytes out)
+    → Afresh (cond (isRefused (step f x bytes out .answer)) me (notedAfter me x)) out (step f x bytes out)
 unfolding calling resetting
 after-reset f me (Reset a) bytes out ty e r = byCases (leb (a .stu) 31)
     (λ g. byCases (isRcb (a .rcb))
-    (λ h. rw (g, h) (record { ok = fresh-ok (a .id) (a .stu) (rcbOf (a .rcb)) (ltb-true (a .id) (2 ^ 16) ty); blank = fresh-blank (a .id) (a .stu) (rcbOf (a .rcb)); silent = refl }))
+    (λ h. rw (g, h) (record { ok = fresh-ok (a .id) (a .stu) (rcbOf (a .rcb)) (ltb-true (a .id) (2 ^ 16) ty); blank = fresh-blank (a .id) (a .stu) (rcbOf (a .rcb)); silent = refl; unwritten = refl }))
     (λ h. no-tf (sym (rw (g, h) at e))))
     (λ g. no-tf (sym (rw g at e)))
 after-reset f me Enable bytes out ty e r = no-tf (sym r)
@@ -174,7 +182,7 @@ after-reset f me PagesOff bytes out ty e r = no-tf (sym r)
 after-reset f me (PageRequest q) bytes out ty e r = no-tf (sym r)
 
 afresh : (s : Bench card) (c : Call) → resets card s c ≡ true
-    → Afresh (cond (isRefused (step (s .fn) (c .command) (c .bytes) (c .out) .answer)) (s .notes) (notedAfter (s .notes) (c .command))) (step (s .fn) (c .command) (c .bytes) (c .out))
+    → Afresh (cond (isRefused (step (s .fn) (c .command) (c .bytes) (c .out) .answer)) (s .notes) (notedAfter (s .notes) (c .command))) (c .out) (step (s .fn) (c .command) (c .bytes) (c .out))
 afresh s c e =
     let b = and-both (not (isRefused (step (s .fn) (c .command) (c .bytes) (c .out) .answer))) (isReset (c .command)) e in
     after-reset (s .fn) (s .notes) (c .command) (c .bytes) (c .out) (c .typed) (b .0) (b .1)
@@ -189,7 +197,10 @@ lawful =
       law = λ s c u o. after-call s c u o .step;
       legible = λ s c u o. after-call s c u o .legible;
       apart = λ s c u o. after-call s c u o .apart;
-      silent = λ s c e. afresh s c e .silent;
+      taken = λ s c u o r. taken-law (s .notes) (s .fn) o (c .command) (c .bytes) (c .out) r;
+      busy = λ s c o i a e. busy-law (s .notes) (s .fn) o (c .command) (c .bytes) (c .out) i a e;
+      written = λ s c u o. after-call s c u o .written;
+      silent = λ s c e. (afresh s c e .silent, afresh s c e .unwritten);
       reset = λ s c e. (afresh s c e .ok, afresh s c e .blank);
       new = (fresh-ok 0 0 (rcbOf 64) (lit≤ tt), fresh-blank 0 0 (rcbOf 64));
     }
@@ -197,14 +208,3 @@ lawful =
 -- from any state, once a reset is accepted, and from a new Function
 pub keeps-order : Order card
 keeps-order = order card lawful
-
--- the states that a run reaches, and which ITags wait there
-module _ (begin : Bench card) (b : lawful .Ok begin × Blank (lawful .view begin)) (calls : List Call) (u : Unbroken card begin calls) where
-  pub ran-ok : Ok (stateAfter card begin calls .notes) (stateAfter card begin calls .fn)
-  unfolding lawful
-  ran-ok = ok-run card lawful begin calls (b .0) u
-
-  pub ran-waits : (i : Ticket)
-      → waits 32 i (history card begin calls) ≡ view (stateAfter card begin calls .fn) .waiting i
-  unfolding lawful
-  ran-waits i = told-run card lawful begin b calls u .waiting i

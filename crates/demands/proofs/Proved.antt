@@ -8,7 +8,17 @@ use Rattle.card.proofs.Invariant.{fresh-sound, sound-invariant}
 use Rattle.card.proofs.call.Met.{met}
 use Rattle.demands.specs.Demands.{Demand1, Demand2, Demand3}
 use Rattle.demands.proofs.Order.{keeps-order}
-use Rattle.demands.proofs.Nine.{nine-while-waiting, nine-while-waiting-new}
+use mathlib.Core.Path.{_≡_, refl, sym}
+use mathlib.Core.Bool.{true, _&&_}
+use mathlib.Core.List.{[]}
+use mathlib.Core.Option.{Option, none, some}
+use Prim.Native.Nat.{ℕ, _-_}
+use Rattle.lemmas.proofs.Cases.{and-both}
+use Rattle.lemmas.proofs.Bools.{no-tf}
+use Rattle.ranges.specs.Range.{regionOf, rangeFrom, unitExponent, isWithin}
+use Rattle.ranges.proofs.Units.{within-overlaps}
+use Rattle.demand3.proofs.Consequence.{Covers, only-new-translations}
+use Rattle.demands.specs.Observed.{terms, card}
 
 pub demand-1 : Demand1
 demand-1 f c bytes out n e =
@@ -27,5 +37,20 @@ demand-2 =
       keeps = sound-invariant;
     }
 
+-- an entry that serves an overlapping access overlaps too
+covers : Covers terms
+covers a e b k o s = go (b .address) refl
+  where
+    go : (x : Option ℕ) → b .address ≡ x → terms .entryIn a e ≡ true
+    go none n = no-tf (sym (rw n at s))
+    go (some x) n =
+        let t : (e .entry .used && _) ≡ true = rw n at s in
+        let used = and-both (e .entry .used) _ t in
+        let inside = and-both (isWithin (rangeFrom x (b .bytes - 1)) (regionOf (e .entry .unit) (unitExponent (e .stu)))) _ (used .1) in
+        rw (used .0) (within-overlaps (rangeFrom x (b .bytes - 1)) (regionOf (e .entry .unit) (unitExponent (e .stu))) a (inside .0) (rw n at o))
+
 pub demand-3 : Demand3
-demand-3 = record { order = keeps-order; nine = nine-while-waiting; nineNew = nine-while-waiting-new }
+demand-3 = record {
+  order = keeps-order;
+  newTranslations = λ s start r i a z. only-new-translations card covers s [] (start .beyond) r i a z;
+}

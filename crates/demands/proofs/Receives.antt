@@ -43,9 +43,10 @@ use Rattle.on_completion.specs.Translations.{isLive}
 use Rattle.on_invalidate.specs.Invalidate.{invalidatedRange, isOtherAgent}
 use Rattle.card.specs.declared.Command.the-variants.{Receive}
 use Rattle.lemmas.proofs.Bools.{no-tf, no-some}
-use Rattle.demand3.specs.Demand.{CPL, leaves, isOpen}
-use Rattle.demand3.proofs.Laws.{Step, fills}
-use Rattle.demands.specs.Demands.{isReplied, Cached, Reply, terms, isTyped, Call, Noted, outcomeTaken, bodyTaken, heldIn}
+use Rattle.demand3.specs.Seen.{CPL}
+use Rattle.demand3.specs.History.{leaves, isOpen}
+use Rattle.demand3.proofs.Laws.{Step, fills, HeldIn}
+use Rattle.demands.specs.Observed.{isReplied, Cached, Reply, terms, isTyped, Call, Noted, outcomeTaken, bodyTaken, heldIn}
 use Rattle.demands.proofs.Views.{askedBy, pendingOf, liveOf, view, Ok, Good, good-plain, quiet, no-entry}
 use Rattle.demands.proofs.Sends.{same-ok}
 use Rattle.demands.proofs.Tags.{left, left-ok}
@@ -87,23 +88,23 @@ module _ (me : Noted) (f : Function) (o : Ok me f) (bytes out : List ℕ) (ty : 
       own = tagState-tag (f .tags) t used
 
       -- the cache is unchanged
-      same-cache : (d : Option Reply) → outcomeTaken (t .0) (c .count) load (c .outcome) ≡ some (CPL (t .0) d)
+      same-cache : (n : ℕ) (d : Option Reply) → outcomeTaken (t .0) (c .count) load (c .outcome) ≡ some (CPL (t .0) n d)
           → (enabled : Bool) (after : TagState) (w : Unrefused) → pendingOf after ≡ leaves d (pendingOf b)
           → (liveOf after ≡ true → liveOf b ≡ true)
           → ((q : PendingTranslation) → after ≡ Translate q → (q .stu ≡ f .stu) × (q .due ≡ 0 → q .whole ≡ 0))
           → ((i : ITag) → isIn (delayedBy after) i ≡ (isOpen (leaves {T = terms} d (pendingOf b)) && isIn (delayedBy b) i))
           → Does (Good me f receive-call) (sendsNothing (left f t enabled (f .cache) after) w)
-      same-cache d given enabled after w opened lived begins notes =
+      same-cache n d given enabled after w opened lived begins notes =
           plain (Cpl c) (c .requester) a _ w
           (left-ok me f o t own after enabled (f .cache) (o .cache) (o .reached) begins (λ i h. o .noted t i (ap (λ (x : TagState). isIn (delayedBy x) i) holds ∙ and-both (isOpen (leaves {T = terms} d (pendingOf b))) _ (sym (notes i) ∙ h) .1)))
-          (rw (mine, given) (left-step me f o t own b holds enabled (f .cache) after d opened lived notes (λ j x h. inl h)))
+          (rw (mine, given) (left-step me f o t own b holds enabled (f .cache) after n d opened lived notes (λ j x h. inl (j, h))))
 
       -- the tag is freed
-      frees : (d : Option Reply) → outcomeTaken (t .0) (c .count) load (c .outcome) ≡ some (CPL (t .0) d)
+      frees : (n : ℕ) (d : Option Reply) → outcomeTaken (t .0) (c .count) load (c .outcome) ≡ some (CPL (t .0) n d)
           → (enabled : Bool) (w : Unrefused) → leaves {T = terms} d (pendingOf b) ≡ none
           → Does (Good me f receive-call) (sendsNothing (left f t enabled (f .cache) Free) w)
-      frees d given enabled w closed =
-          same-cache d given enabled Free w (sym closed) (λ l. no-tf (sym l)) (λ q h. impossible cc)
+      frees n d given enabled w closed =
+          same-cache n d given enabled Free w (sym closed) (λ l. no-tf (sym l)) (λ q h. impossible cc)
           (λ i. in-none i ∙ sym (ap (λ (x : Option _). isOpen x && isIn (delayedBy b) i) closed))
 
     -- for a read
@@ -113,25 +114,20 @@ module _ (me : Noted) (f : Function) (o : Ok me f) (bytes out : List ℕ) (ty : 
 
       pub good-fails : (status : ℕ) → c .outcome ≡ Status status → eqb status 0 ≡ false
           → Does (Good me f receive-call) (sendsNothing (withTag f t Free) readFailed)
-      good-fails status x z = frees (Read r) holds is-used none (rw (x, z) refl) (f .enabled) _ refl
+      good-fails status x z = frees (Read r) holds is-used status none (rw (x, z) refl) (f .enabled) _ refl
 
       pub good-ends : (dwords : ℕ) → c .outcome ≡ Data dwords → eqb (c .count) (r .due) ≡ true
           → eqb (length load) (r .due) ≡ true
           → Does (Good me f receive-call) (sendsNothing (withTag f t Free) payloadLast)
       good-ends dwords x n z =
-          let all = eqb-true (length load) (r .due) z in
-          frees (Read r) holds is-used (some (record { count = c .count; load = load })) (rw x refl) (f .enabled) _ (rw (n, le-leb (r .due) (length load) (omega (arith, all))))
+          frees (Read r) holds is-used 0 (some (record { count = c .count; load = load })) (rw x refl) (f .enabled) _ (rw (n, z))
 
       pub good-goes-on : (dwords : ℕ) → c .outcome ≡ Data dwords → eqb (c .count) (r .due) ≡ true
           → leb (length load) (r .due) ≡ true → eqb (length load) (r .due) ≡ false
           → Does (Good me f receive-call) (sendsNothing (withTag f t (Read (withDue r (r .due - length load)))) payloadMore)
       good-goes-on dwords x n l z =
-          let less : leb (r .due) (length load) ≡ false = lt-leb (r .due) (length load) (below (leb-true (length load) (r .due) l) (eqb-false (length load) (r .due) z)) in
-          same-cache (Read r) holds is-used (some (record { count = c .count; load = load })) (rw x refl) (f .enabled) (Read (withDue r (r .due - length load))) _
-          (rw (n, less)) (λ h. no-tf (sym h)) (λ q h. impossible cc) (λ i. rw (n, less))
-        where
-          below : {a b : ℕ} → a ≤ b → (a ≡ b → ⊥) → a < b
-          below {a} {b} h n = omega (arith, h, n)
+          same-cache (Read r) holds is-used 0 (some (record { count = c .count; load = load })) (rw x refl) (f .enabled) (Read (withDue r (r .due - length load))) _
+          (rw (n, z)) (λ h. no-tf (sym h)) (λ q h. impossible cc) (λ i. rw (n, z))
 
     -- for a Translation Request
     module _ (q : PendingTranslation) (holds : tagState (f .tags) t ≡ Translate q) where
@@ -148,7 +144,7 @@ module _ (me : Noted) (f : Function) (o : Ok me f) (bytes out : List ℕ) (ty : 
       filled-reached j = ⊎-elim (λ s. rw s (o .reached j)) (⊎-elim (λ s. rw s (lit≤ tt)) (λ b. brought-to q load _ all-bytes b)) (applied-entry q load (f .cache) (o .cache) j)
 
       -- with the translations of a live request applied
-      fills-cache : outcomeTaken (t .0) (c .count) load (c .outcome) ≡ some (CPL (t .0) (some reply))
+      fills-cache : outcomeTaken (t .0) (c .count) load (c .outcome) ≡ some (CPL (t .0) 0 (some reply))
           → isLive f q ≡ true → translationsFit q load ≡ true → (after : TagState) (w : Unrefused)
           → pendingOf after ≡ leaves (some reply) (pendingOf (Translate q))
           → (liveOf after ≡ true → liveOf (Translate q) ≡ true)
@@ -158,14 +154,14 @@ module _ (me : Noted) (f : Function) (o : Ok me f) (bytes out : List ℕ) (ty : 
       fills-cache given live fit after w opened lived begins notes =
           plain (Cpl c) (c .requester) a _ w
           (left-ok me f o t (own (Translate q) holds asks-used) after (f .enabled) filled-cache (applied-sound q load (f .cache) (o .cache)) filled-reached begins (λ i h. absurd (never-both _ h (notes i))))
-          (rw (mine, given) (left-step me f o t (own (Translate q) holds asks-used) (Translate q) holds (f .enabled) filled-cache after (some reply) opened lived (λ i. notes i ∙ sym (ap (λ (b : Bool). isOpen (leaves {T = terms} (some reply) (pendingOf (Translate q))) && b) (in-none i) ∙ and-false (isOpen (leaves {T = terms} (some reply) (pendingOf (Translate q)))))) entries))
+          (rw (mine, given) (left-step me f o t (own (Translate q) holds asks-used) (Translate q) holds (f .enabled) filled-cache after 0 (some reply) opened lived (λ i. notes i ∙ sym (ap (λ (b : Bool). isOpen (leaves {T = terms} (some reply) (pendingOf (Translate q))) && b) (in-none i) ∙ and-false (isOpen (leaves {T = terms} (some reply) (pendingOf (Translate q)))))) entries))
         where
           entries : (j : ℕ) (y : Cached)
               → cond {A = Option Cached} (entryAt filled-cache j .used) (some (record { stu = f .stu; entry = entryAt filled-cache j })) none ≡ some y
-              → (heldIn f j ≡ some y) ⊎ (fills (view f) (some (CPL (t .0) (some reply))) y ≡ true)
+              → HeldIn (view f) y ⊎ (fills (view f) (some (CPL (t .0) 0 (some reply))) y ≡ true)
           entries j y h =
               ⊎-elim
-              (λ s. inl (sym (ap (λ (x : Entry). cond {A = Option Cached} (x .used) (some (record { stu = f .stu; entry = x })) none) s) ∙ h))
+              (λ s. inl (j, sym (ap (λ (x : Entry). cond {A = Option Cached} (x .used) (some (record { stu = f .stu; entry = x })) none) s) ∙ h))
               (⊎-elim
               (λ s. no-some (sym (no-entry (f .stu) (entryAt filled-cache j) s) ∙ h))
               (λ b. inr (rw (holds, and-both (f .enabled) _ live .1, ← held-entry (f .stu) (entryAt filled-cache j) y h .1) (ap (λ (s : ℕ). isReplied (askedBy q) (q .whole - q .due) reply (record { stu = s; entry = entryAt filled-cache j })) (sym (o .begun t q holds .0)) ∙ brought-replied q load fit (entryAt filled-cache j) b (c .count)))))
@@ -174,20 +170,20 @@ module _ (me : Noted) (f : Function) (o : Ok me f) (bytes out : List ℕ) (ty : 
       -- no data
       pub good-aborts : (status : ℕ) → c .outcome ≡ Status status → eqb status 0 ≡ false
           → Does (Good me f receive-call) (sendsNothing (withTag f t Free) aborted)
-      good-aborts status x z = frees (Translate q) holds asks-used none (rw (x, z) refl) (f .enabled) _ refl
+      good-aborts status x z = frees (Translate q) holds asks-used status none (rw (x, z) refl) (f .enabled) _ refl
 
       pub good-switches : (status : ℕ) → c .outcome ≡ Status status → eqb status 0 ≡ false
           → Does (Good me f receive-call) (sendsNothing (withEnable (withTag f t Free) false) switchedOff)
-      good-switches status x z = frees (Translate q) holds asks-used none (rw (x, z) refl) false _ refl
+      good-switches status x z = frees (Translate q) holds asks-used status none (rw (x, z) refl) false _ refl
 
       -- after the first of two packets the rest is due; after the last, or the only one, nothing is
       module _ (dwords : ℕ) (x : c .outcome ≡ Data dwords) where
-        given : outcomeTaken (t .0) (c .count) load (c .outcome) ≡ some (CPL (t .0) (some reply))
+        given : outcomeTaken (t .0) (c .count) load (c .outcome) ≡ some (CPL (t .0) 0 (some reply))
         given = rw x refl
 
         pub good-off : classOf f bytes c q ≡ OffBoundary
             → Does (Good me f receive-call) (sendsNothing (withTag f t Free) discarded)
-        good-off j = frees (Translate q) holds asks-used (some reply) given (f .enabled) _ (rw (eq-eqb (c .count) (length load) (off-whole q (f .rcb) (c .count) (c .lower) load j)))
+        good-off j = frees (Translate q) holds asks-used 0 (some reply) given (f .enabled) _ (rw (eq-eqb (c .count) (length load) (off-whole q (f .rcb) (c .count) (c .lower) load j)))
 
         module _ (j : classOf f bytes c q ≡ Last) where
           whole : eqb (c .count) (length load) ≡ true
@@ -198,7 +194,7 @@ module _ (me : Noted) (f : Function) (o : Ok me f) (bytes out : List ℕ) (ty : 
           good-last live = fills-cache given live (last-fits q (f .rcb) (c .count) (c .lower) load j) Free _ (rw whole) (λ l. no-tf (sym l)) (λ p h. impossible cc) in-none
 
           pub good-last-dead : Does (Good me f receive-call) (sendsNothing (withTag f t Free) discarded)
-          good-last-dead = frees (Translate q) holds asks-used (some reply) given (f .enabled) _ (rw whole)
+          good-last-dead = frees (Translate q) holds asks-used 0 (some reply) given (f .enabled) _ (rw whole)
 
         module _ (j : classOf f bytes c q ≡ First) where
           abbrev rest : PendingTranslation
@@ -229,7 +225,7 @@ module _ (me : Noted) (f : Function) (o : Ok me f) (bytes out : List ℕ) (ty : 
           good-first live = fills-cache given live (first-fits q (f .rcb) (c .count) (c .lower) load j) (Translate rest) _ (rw (half, so-far, same-range)) (λ l. l) begins in-none
 
           pub good-first-dead : Does (Good me f receive-call) (sendsNothing (withTag f t (Translate rest)) discarded)
-          good-first-dead = same-cache (Translate q) holds asks-used (some reply) given (f .enabled) (Translate rest) _ (rw (half, so-far, same-range)) (λ l. l) begins (λ i. rw (half, in-none i))
+          good-first-dead = same-cache (Translate q) holds asks-used 0 (some reply) given (f .enabled) (Translate rest) _ (rw (half, so-far, same-range)) (λ l. l) begins (λ i. rw (half, in-none i))
 
   -- ---- Invalidate Requests
   pub good-invalidate : (i : InvalidateRequest) (a : Arrives f bytes (Inv i) (i .device))
@@ -239,7 +235,7 @@ module _ (me : Noted) (f : Function) (o : Ok me f) (bytes out : List ℕ) (ty : 
   good-invalidate i a ours idle =
       let from = a .packet .head .sender in
       let short = read-typed bytes (a .packet) (octets bytes are) (a .reads) .sender in
-      plain (Inv i) (i .device) a _ _ (gone-ok me f o from i short ours idle) (rw (← o .unit) (gone-step me f o from i short ours idle))
+      plain (Inv i) (i .device) a _ _ (gone-ok me f o from i short ours idle) (rw (rw (o .own) at (a .ours), ← o .unit) (gone-step me f o from i short ours idle))
 
   -- ---- PRG Responses
   pub good-response : (s : PrgResponse) (a : Arrives f bytes (Prs s) (s .device)) (pages : Pages)

@@ -5,15 +5,15 @@ use mathlib.Core.Logic.{inl, inr}
 use mathlib.Core.Bool.{Bool, true, false, cond}
 use mathlib.Core.List.{List, []}
 use mathlib.Core.Option.{Option, none, some}
-use Prim.Native.Nat.{ℕ, _-_, _*_, _/_, _^_, _<_, _≤_}
+use Prim.Native.Nat.{ℕ, _-_, _*_, _/_, _^_, _<_, _≤_, _%_}
 use native.Mathlib.Omega.{arith}
 use lib.Dec.{eqb, leb, lit≤}
 use lib.ListN.{length}
 use borrow.Author.Tests.{eqb-true, ltb-true, leb-true, eq-eqb, ne-eqb}
 use Rattle.lemmas.proofs.Cases.{byCases, and-both, never-both, impossible}
 use Rattle.ranges.specs.declared.Range.{Range}
-use Rattle.ranges.specs.Range.{unitsFrom, unitExponent, relocated}
-use Rattle.ranges.proofs.Units.{relocated-lt, unitsFrom-low-bits}
+use Rattle.ranges.specs.Range.{unitsFrom, unitExponent, relocated, rangeFrom, isWithin, regionOf}
+use Rattle.ranges.proofs.Units.{relocated-lt, unitsFrom-low-bits, region-again, page-in-region}
 use Rattle.packet.specs.declared.ITag.{ITag}
 use Rattle.packet.specs.declared.Tag.{Tag}
 use Rattle.packet.specs.declared.Access.the-variants.{Read as Fetches, Write}
@@ -22,6 +22,7 @@ use Rattle.packet.specs.Numbers.{ok, refusal}
 use Rattle.packet.proofs.Laws.{check-passed}
 use Rattle.packet.specs.Forms.{dwordCount}
 use Rattle.tlp.proofs.Fields.{typed-request, typed-access, typed-page}
+use Rattle.atc.specs.declared.Entry.{Entry}
 use Rattle.atc.specs.declared.Found.{Found}
 use Rattle.atc.specs.declared.Found.the-variants.{Hit, Miss}
 use Rattle.atc.specs.Cache.{entryAt, found, emptied}
@@ -49,10 +50,11 @@ use Rattle.call_access.specs.declared.AccessArgs.{AccessArgs}
 use Rattle.card.specs.declared.Command.{Command}
 use Rattle.card.specs.declared.Command.the-variants.{Enable, Ask as Asks, Access as Accesses, PageRequest as PageRequests}
 use Rattle.lemmas.proofs.Bools.{no-tf, no-some}
-use Rattle.demand3.specs.Demand.{Ticket, Sent, TR, READ, Pending, translation, onSent, uses, reaches, completes}
+use Rattle.demand3.specs.Seen.{Ticket, Sent, TR, READ}
+use Rattle.demand3.specs.History.{Pending, translation, onSent, uses, reaches, completes, goesDirect}
 use Rattle.demand3.proofs.Laws.{Step, Through}
 use Rattle.tlp.specs.Bytes.{areBytes}
-use Rattle.demands.specs.Demands.{Wanted, terms, isTyped, Call, Noted, addressFor, itag}
+use Rattle.demands.specs.Observed.{Wanted, terms, isTyped, Call, Noted, addressFor, itag}
 use Rattle.demands.proofs.Views.{own-packet, no-entry, tag, pendingOf, liveOf, view, Ok, Good, good-plain, good-send, quiet, writes}
 use Rattle.demands.proofs.Tags.{at-own, at-other, left-ok}
 use Rattle.demands.proofs.Marks.{stale-pending, stale-live, stale-delayed}
@@ -109,6 +111,7 @@ module _ (me : Noted) (f : Function) (o : Ok me f) (bytes out : List ℕ) (octet
         unused = λ t e. no-tf (sym e);
         live = λ t l. inl (stale-live (tagState (f .tags) (tag t)) (sym (ap liveOf (tagState-allStale (f .tags) (tag t))) ∙ l));
         through = λ b k e. no-some e;
+        direct = λ b k e. no-some e;
         entries = λ j x h. no-some (sym (no-entry (f .stu) (entryAt (emptied (f .cache)) j) (laws .empty-entry (f .cache) j)) ∙ h);
         waiting = λ i. refl;
         waitsFor = λ i t e. ap (λ (n : ℕ). isIn n (itag (i .number))) (ap delayedBy (tagState-allStale (f .tags) (tag t)) ∙ stale-delayed (tagState (f .tags) (tag t)));
@@ -142,15 +145,17 @@ module _ (me : Noted) (f : Function) (o : Ok me f) (t : Tag) (own : isTag t ≡ 
       → ((u : ℕ) (p : Option (Pending terms)) → onSent u (some x) p ≡ cond (eqb u (t .0)) (pendingOf b) p)
       → ((i : Ticket) → completes i (some x) ≡ false) → ((i : ITag) → isIn (delayedBy b) i ≡ false)
       → ((w : Wanted) (k : ℕ) → reaches (some x) ≡ some (w, k) → Through (view f) w k)
+      → ((w : Wanted) (k : ℕ) → goesDirect (some x) ≡ some (w, k) → terms .asked w k ≡ true)
       → Step 32 (view f) (view (withTag f t b)) (record { took = none; sent = some x })
-  open-step free x used opened carries unnoted served =
+  open-step free x used opened carries unnoted served plain =
       record {
         opens = λ u. byCases (eqb u (t .0)) (λ e. ap pendingOf (at-own me f o t own b (tag u) e) ∙ sym (opened u (pendingOf (tagState (f .tags) (tag u))) ∙ rw e refl))
             (λ e. ap pendingOf (at-other me f o t own b (tag u) e) ∙ sym (opened u (pendingOf (tagState (f .tags) (tag u))) ∙ rw e refl));
         unused = λ u e. let same = eqb-true u (t .0) (sym (used u) ∙ e) in rw same (ltb-true (t .0) 32 own, ap pendingOf free);
         live = λ u l. byCases (eqb u (t .0)) (λ e. inr (used u ∙ e)) (λ e. inl (sym (ap liveOf (at-other me f o t own b (tag u) e)) ∙ l));
-        entries = λ j e h. inl h;
+        entries = λ j e h. inl (j, h);
         through = served;
+        direct = plain;
         waiting = λ i. rw (carries i) refl;
         waitsFor = λ i u w. byCases (eqb u (t .0))
             (λ e. let same = eqb-true u (t .0) e in ap (λ (z : TagState). isIn (delayedBy z) (itag (i .number))) (at-own me f o t own b (tag u) e) ∙ rw (same, free) (unnoted (itag (i .number)) ∙ sym (in-none (itag (i .number)))))
@@ -188,7 +193,7 @@ module _ (me : Noted) (f : Function) (o : Ok me f) (a : AskArgs) (bytes out : Li
       (opened-ok me f o t own b (λ q e. (let unit : f .stu ≡ q .stu = cc in sym unit, λ d. let z : 0 ≡ q .whole = cc in sym z)) in-none) (λ i. refl)
       (rw (asks-units (a .units) (n .0), unitsFrom-low-bits (a .address) (a .units - 1) (me .stu), ← o .unit)
       (open-step me f o t own b (free .1) (TR (t .0) (record { stu = f .stu; range = unitsFrom (a .address) (a .units - 1) (f .stu) })) (λ u. refl)
-      (λ u p. ap (λ (r : Range). cond {A = Option (Pending terms)} (eqb u (t .0)) (some (translation (record { stu = f .stu; range = r }) 0)) p) (sym (translationRange-units new-request))) (λ i. refl) in-none (λ w k e. no-some e)))
+      (λ u p. ap (λ (r : Range). cond {A = Option (Pending terms)} (eqb u (t .0)) (some (translation (record { stu = f .stu; range = r }) 0)) p) (sym (translationRange-units new-request))) (λ i. refl) in-none (λ w k e. no-some e) (λ w k e. no-some e)))
 
 -- ---- access
 
@@ -196,8 +201,9 @@ module _ (me : Noted) (f : Function) (o : Ok me f) (a : AskArgs) (bytes out : Li
 pub record Goes (f : Function) (address dwords : ℕ) (at : Target) : Type 0 where
   pub least : 1 ≤ dwords
   pub inside : at .address < 2 ^ 64
-  pub by : at .translated ≡ true → (bytes : ℕ)
-      → Through (view f) (record { address = some address; bytes = bytes }) (at .address)
+  pub by : at .translated ≡ true
+      → Through (view f) (record { address = some address; bytes = 4 * dwords }) (at .address)
+  pub direct : at .translated ≡ false → at .address ≡ address
 
 module _ (me : Noted) (f : Function) (o : Ok me f) (a : AccessArgs) (bytes out : List ℕ) (ty : isTyped (Accesses a) ≡ true) (octets : areBytes bytes ≡ true) where
   abbrev access-call : Call
@@ -212,12 +218,27 @@ module _ (me : Noted) (f : Function) (o : Ok me f) (a : AccessArgs) (bytes out :
       record {
         least = leb-true 1 (a .dwords) (and-both (leb 1 (a .dwords)) _ (page .0) .0);
         inside = entered (found (f .cache) (unitAt (f .stu) (a .address))) refl (load .1) .0;
-        by = entered (found (f .cache) (unitAt (f .stu) (a .address))) refl (load .1) .1;
+        by = entered (found (f .cache) (unitAt (f .stu) (a .address))) refl (load .1) .1 .0;
+        direct = entered (found (f .cache) (unitAt (f .stu) (a .address))) refl (load .1) .1 .1;
       }
     where
+      -- all bytes of the access lie in the unit of the entry
+      in-unit : (x : Entry) → x .unit ≡ unitAt (f .stu) (a .address)
+          → isWithin (rangeFrom (a .address) (4 * a .dwords - 1)) (regionOf (x .unit) (unitExponent (f .stu))) ≡ true
+      in-unit x is =
+          let on = check-passed (f .enabled) 6 _ e in
+          let page = check-passed (isInPage (a .address) (a .dwords)) 12 _ (on .1) .0 in
+          let some = and-both (leb 1 (a .dwords)) _ page in
+          let few = and-both (leb (a .dwords) 32) _ (some .1) in
+          let dword = and-both (eqb (a .address % 4) 0) _ (few .1) in
+          rw (is, region-again (a .address) (unitExponent (f .stu)))
+          (page-in-region (a .address) (4 * a .dwords) (unitExponent (f .stu)) (omega arith) (omega (arith, leb-true 1 (a .dwords) (some .0))) (leb-true _ 4096 (dword .1)))
+
       entered : (x : Found) → found (f .cache) (unitAt (f .stu) (a .address)) ≡ x
           → throughFound (a .direction) (f .stu) (a .address) x ≡ ok at
-          → (at .address < 2 ^ 64) × (at .translated ≡ true → (bytes : ℕ) → Through (view f) (record { address = some (a .address); bytes = bytes }) (at .address))
+          → (at .address < 2 ^ 64)
+          × ((at .translated ≡ true → Through (view f) (record { address = some (a .address); bytes = 4 * a .dwords }) (at .address))
+          × (at .translated ≡ false → at .address ≡ a .address))
       entered Miss h q = impossible cc
       entered (Hit x) h q =
           let s = laws .found-is (f .cache) (o .cache) (unitAt (f .stu) (a .address)) x h in
@@ -226,23 +247,25 @@ module _ (me : Noted) (f : Function) (o : Ok me f) (a : AccessArgs) (bytes out :
           let g = check-passed (isAllowed (a .direction) x) 14 _ q .1 in
           let same : targetOf (f .stu) (a .address) x ≡ at = cc in
           rw (← same) (byCases (x .u)
-          (λ u. rw u (ltb-true (a .address) (2 ^ 64) ty, λ e. no-tf (sym e)))
+          (λ u. rw u (ltb-true (a .address) (2 ^ 64) ty, (λ e. no-tf (sym e), λ e. refl)))
           (λ u. rw u (
             relocated-lt (x .to) (a .address) (unitExponent (f .stu)) to,
-            λ e bytes. record {
-              slot = s .2 .0;
-              entry = record { stu = f .stu; entry = x };
-              held = rw (there, s .0);
-              serves = rw (eq-eqb (x .unit) (unitAt (f .stu) (a .address)) (s .1), u, eq-eqb (relocated (x .to) (a .address) (unitExponent (f .stu))) _ refl);
-            },
+            (
+              λ e. record {
+                entry = record { stu = f .stu; entry = x };
+                held = (s .2 .0, rw (there, s .0));
+                serves = rw (s .0, in-unit x (s .1), u, eq-eqb (relocated (x .to) (a .address) (unitExponent (f .stu))) _ refl);
+              },
+              λ e. no-tf e,
+            ),
           )))
 
   -- a translated access uses the entry
   served : (direction : Direction) → a .direction ≡ direction → (at : Target) → Goes f (a .address) (a .dwords) at
-      → (bytes : ℕ) (w : Wanted) (k : ℕ)
+      → (bytes : ℕ) → bytes ≡ 4 * a .dwords → (w : Wanted) (k : ℕ)
       → cond {A = Option (Wanted × ℕ)} (at .translated) (some (record { address = addressFor direction (Accesses a); bytes = bytes }, at .address)) none ≡ some (w, k)
       → Through (view f) w k
-  served direction is at g bytes w k e =
+  served direction is at g bytes many w k e =
       byCases (at .translated) (λ t. go t (rw (t, same-way direction is) at e)) (λ t. no-some (rw t at e))
     where
       same-way : (direction : Direction) → a .direction ≡ direction
@@ -257,14 +280,36 @@ module _ (me : Noted) (f : Function) (o : Ok me f) (a : AccessArgs) (bytes out :
           let both : _≡_ {A = Wanted × ℕ} (record { address = some (a .address); bytes = bytes }, at .address) (w, k) = cc in
           let one : record { address = some (a .address); bytes = bytes } ≡ w = ap (λ (z : Wanted × ℕ). z .0) both in
           let two : at .address ≡ k = ap (λ (z : Wanted × ℕ). z .1) both in
-          rw (one, two) at (g .by t bytes)
+          rw (one, two) at (rw (sym many) at (g .by t))
+
+  -- an untranslated access goes to the address that was asked for
+  asked-for : (direction : Direction) → a .direction ≡ direction → (at : Target) → Goes f (a .address) (a .dwords) at
+      → (bytes : ℕ) (w : Wanted) (k : ℕ)
+      → cond {A = Option (Wanted × ℕ)} (at .translated) none (some (record { address = addressFor direction (Accesses a); bytes = bytes }, at .address)) ≡ some (w, k)
+      → terms .asked w k ≡ true
+  asked-for direction is at g bytes w k e =
+      byCases (at .translated) (λ t. no-some (rw t at e)) (λ t. go t (rw (t, same-way direction is) at e))
+    where
+      same-way : (direction : Direction) → a .direction ≡ direction
+          → addressFor direction (Accesses a) ≡ some (a .address)
+      same-way ToRead h = rw h
+      same-way ToWrite h = rw h
+
+      go : at .translated ≡ false
+          → _≡_ {A = Option (Wanted × ℕ)} (some (record { address = some (a .address); bytes = bytes }, at .address)) (some (w, k))
+          → terms .asked w k ≡ true
+      go t q =
+          let both : _≡_ {A = Wanted × ℕ} (record { address = some (a .address); bytes = bytes }, at .address) (w, k) = cc in
+          let one : record { address = some (a .address); bytes = bytes } ≡ w = ap (λ (z : Wanted × ℕ). z .0) both in
+          let two : at .address ≡ k = ap (λ (z : Wanted × ℕ). z .1) both in
+          rw (← one, ← two, g .direct t) (eq-eqb (a .address) (a .address) refl)
 
   pub good-write : (at : Target) → a .direction ≡ ToWrite → lookingUp f a (length bytes) ≡ ok at
       → Does (Good me f access-call) (writeTo f at (a .dwords) bytes out)
   good-write at is up =
       let g = goes at up in
       good-send me f access-call _ _ (memoryRequestPacket (f .id) Write (a .dwords) at) bytes (typed-access (headOf (f .id)) (o .id) _ tt (g .inside)) (own-packet me (memoryRequestPacket (f .id) Write (a .dwords) at) (o .own) refl refl) o (λ i. refl)
-      (writes (view f) (at .translated) _ (at .address) (served ToWrite is at g _))
+      (writes (view f) (at .translated) _ (at .address) (served ToWrite is at g _ (rw (ne-eqb (a .dwords) 0 (omega (arith, g .least))))) (asked-for ToWrite is at g _))
 
   pub good-read : (at : Target) (t : Tag) → a .direction ≡ ToRead → lookingUp f a (length bytes) ≡ ok at
       → freeTag (f .tags) ≡ Lowest t → Does (Good me f access-call) (readFrom f t at a bytes out)
@@ -278,7 +323,7 @@ module _ (me : Noted) (f : Function) (o : Ok me f) (a : AccessArgs) (bytes out :
       (opened-ok me f o t own b (λ q e. impossible cc) in-none) (λ i. refl)
       (rw (is, ne-eqb (a .dwords) 0 (omega (arith, g .least)))
       (open-step me f o t own b (free .1) (READ (t .0) (at .translated) (record { address = some (a .address); bytes = 4 * a .dwords }) (at .address)) (λ u. refl) (λ u p. refl) (λ i. refl) in-none
-      (λ w k e. served ToRead is at g (4 * a .dwords) w k (rw is e))))
+      (λ w k e. served ToRead is at g (4 * a .dwords) refl w k (rw is e)) (λ w k e. asked-for ToRead is at g (4 * a .dwords) w k (rw is e))))
 
 -- ---- page requests
 

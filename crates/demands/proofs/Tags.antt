@@ -17,7 +17,7 @@ use Rattle.tags.specs.Tags.{tagState, setTag, isTag, delayedBy}
 use Rattle.tags.proofs.Laws.{setTag-long, tagState-setTag}
 use Rattle.state.specs.declared.Function.{Function}
 use Rattle.state.specs.State.{remade}
-use Rattle.demands.specs.Demands.{Noted}
+use Rattle.demands.specs.Observed.{Noted}
 use Rattle.demands.proofs.Views.{Ok}
 
 abbrev pub left : Function → Tag → Bool → Cache → TagState → Function

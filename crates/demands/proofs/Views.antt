@@ -16,7 +16,7 @@ use Rattle.packet.specs.Numbers.{ok}
 use Rattle.packet.specs.Reading.{reading}
 use Rattle.packet.specs.Writing.{writing, bytesOf}
 use Rattle.tlp.specs.Fields.{Typed}
-use Rattle.tlp.proofs.Laws.{sent-reads, nothing-reads}
+use Rattle.tlp.proofs.Laws.{sent-reads, nothing-reads, sent-bytes}
 use Rattle.atc.specs.declared.Entry.{Entry}
 use Rattle.atc.specs.Cache.{entryAt, noEntry, SoundCache}
 use Rattle.tags.specs.declared.TagState.{TagState}
@@ -32,9 +32,10 @@ use Rattle.state.specs.Answers.{Unrefused, Success, sendsNothing, sends}
 use Rattle.state.proofs.Laws.{Does, does-nothing, does-write}
 use Rattle.call_send.specs.Drain.{agentId}
 use Rattle.lemmas.proofs.Bools.{no-tf, no-some}
-use Rattle.demand3.specs.Demand.{Ticket, Sent, WRITE, Pending, translation, fetch, accepts}
+use Rattle.demand3.specs.Seen.{Ticket, Sent, WRITE}
+use Rattle.demand3.specs.History.{Pending, translation, fetch, accepts}
 use Rattle.demand3.proofs.Laws.{View, Step, Through}
-use Rattle.demands.specs.Demands.{Asked, Wanted, Cached, terms, Call, Noted, itag, isListed, callTaken, packetSent, isSole, isOurs, isPacket, heldIn}
+use Rattle.demands.specs.Observed.{Asked, Wanted, Cached, terms, Call, Noted, itag, isListed, callTaken, packetSent, isSole, isOurs, isPacket, heldIn}
 
 -- ---- a packet with the Function's ID
 pub own-packet : (me : Noted) (p : Packet) → p .head .sender ≡ me .id → p .head .tc ≡ 0 → isSole (p .body) ≡ true
@@ -113,6 +114,7 @@ pub record Good (me : Noted) (f : Function) (c : Call) (d : Success) : Type 0 wh
   pub ok : Ok me (d .state)
   pub step : Step 32 (view f) (view (d .state)) (record { took = callTaken me (c .command) (c .bytes); sent = packetSent (me .stu) (c .command) (reading (packetIn c d)) })
   pub legible : isPacket me (packetIn c d) ≡ true
+  pub written : d .bytes ++ drop (length (d .bytes)) (c .out) ≡ packetIn c d ++ drop (length (packetIn c d)) (c .out)
   pub apart : (i : Ticket) (a : Range) → accepts i (callTaken me (c .command) (c .bytes)) ≡ some a → packetIn c d ≡ []
 
 module _ (me : Noted) (f : Function) (c : Call) where
@@ -124,7 +126,7 @@ module _ (me : Noted) (f : Function) (c : Call) where
   Alone = (i : Ticket) → accepts i (callTaken me (c .command) (c .bytes)) ≡ none
 
   pub good-plain : (g : Function) (w : Unrefused) → Ok me g → Effects g none → Does (Good me f c) (sendsNothing g w)
-  good-plain g w o s = does-nothing (Good me f c) g w (record { ok = o; step = rw nothing-reads s; legible = refl; apart = λ i a e. refl })
+  good-plain g w o s = does-nothing (Good me f c) g w (record { ok = o; step = rw nothing-reads s; legible = refl; written = refl; apart = λ i a e. refl })
 
   -- the packet sent is read as that packet
   pub good-send : (g : Function) (w : Unrefused) (p : Packet) (load : List ℕ) → Typed p → isOurs me (ok p) ≡ true
@@ -132,12 +134,16 @@ module _ (me : Noted) (f : Function) (c : Call) where
       → Does (Good me f c) (sends g w p load (c .out))
   good-send g w p load ty ours o alone s = does-write (Good me f c) g w p load (c .out) one
     where
+      whole : (n : ℕ) → writing p (length load) (length (c .out)) ≡ ok n
+          → take n (bytesOf p load ++ drop (length (bytesOf p load)) (c .out)) ≡ bytesOf p load
+      whole n e = rw e at (sent-bytes p load (c .out) n ty e)
+
       one : (n : ℕ) → writing p (length load) (length (c .out)) ≡ ok n
           → Good me f c (record { state = g; answer = w; sent = n; bytes = bytesOf p load })
       one n e =
           let out = take n (bytesOf p load ++ drop (length (bytesOf p load)) (c .out)) in
           let back : reading out ≡ ok p = rw e at (sent-reads p load (c .out) n ty e) in
-          record { ok = o; step = rw back s; legible = rw (back, ours) (or-true (eqb (length out) 0)); apart = λ i a h. no-some (sym (alone i) ∙ h) }
+          record { ok = o; step = rw back s; legible = rw (back, ours) (or-true (eqb (length out) 0)); written = rw (whole n e); apart = λ i a h. no-some (sym (alone i) ∙ h) }
 
 -- nothing is received or sent, and nothing changes
 pub quiet : (v : View terms) → Step 32 v v (record { took = none; sent = none })
@@ -146,8 +152,9 @@ quiet v =
       opens = λ t. refl;
       unused = λ t e. no-tf (sym e);
       live = λ t e. inl e;
-      entries = λ j e h. inl h;
+      entries = λ j e h. inl (j, h);
       through = λ b k e. no-some e;
+      direct = λ b k e. no-some e;
       waiting = λ i. refl;
       waitsFor = λ i t e. refl;
       carried = λ i. refl;
@@ -161,14 +168,16 @@ quiet v =
 -- a write is sent, through an entry if it is translated, and nothing changes
 pub writes : (v : View terms) (x : Bool) (b : Wanted) (k : ℕ)
     → ((w : Wanted) (j : ℕ) → cond {A = Option (Wanted × ℕ)} x (some (b, k)) none ≡ some (w, j) → Through v w j)
+    → ((w : Wanted) (j : ℕ) → cond {A = Option (Wanted × ℕ)} x none (some (b, k)) ≡ some (w, j) → terms .asked w j ≡ true)
     → Step 32 v v (record { took = none; sent = some (WRITE x b k) })
-writes v x b k served =
+writes v x b k served plain =
     record {
       opens = λ t. refl;
       unused = λ t e. no-tf (sym e);
       live = λ t e. inl e;
-      entries = λ j e h. inl h;
+      entries = λ j e h. inl (j, h);
       through = served;
+      direct = plain;
       waiting = λ i. refl;
       waitsFor = λ i t e. refl;
       carried = λ i. refl;

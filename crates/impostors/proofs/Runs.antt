@@ -15,9 +15,12 @@ use Rattle.state.specs.Answers.{done}
 use Rattle.call_access.specs.declared.Direction.the-variants.{Read}
 use Rattle.card.specs.declared.Command.{Command}
 use Rattle.card.specs.declared.Command.the-variants.{Reset, Enable, Ask, Access, Receive, Drain}
-use Rattle.demand3.specs.Demand.{Bench, Ticket, fetch, accepts, openAt, readIn, remains, waits, completions, next, seen, stateAfter, history, Completed}
-use Rattle.demand3.proofs.Theorem.{broughtIn}
-use Rattle.demands.specs.Demands.{Call, Cached, isTyped, heldIn, card}
+use Rattle.demand3.specs.Seen.{Ticket}
+use Rattle.demand3.specs.History.{fetch, accepts, openAt, readIn, remains, waits, completions}
+use Rattle.demand3.specs.Runs.{Bench, next, seen, stateAfter, history, Unbroken, Run}
+use Rattle.demand3.specs.Order.{Completed}
+use Rattle.demand3.proofs.Consequence.{broughtIn}
+use Rattle.demands.specs.Observed.{Call, Cached, isTyped, heldIn, card}
 use Rattle.card.proofs.Computed.{computed}
 
 -- ---- calls on the card, each with a buffer of 24 bytes
@@ -65,6 +68,10 @@ lastPart = receive (fourBytes 0x4A00_0001 ++ fourBytes 0x0008_0004 ++ fourBytes 
 abbrev pub bothParts : Call
 bothParts = receive (fourBytes 0x4A00_0002 ++ fourBytes 0x0008_0008 ++ fourBytes 0 ++ fourBytes 0x1122_3344 ++ fourBytes 0x5566_7788) refl
 
+-- twelve bytes where eight are due
+abbrev pub tooMany : Call
+tooMany = receive (fourBytes 0x4A00_0003 ++ fourBytes 0x0008_0008 ++ fourBytes 0 ++ fourBytes 1 ++ fourBytes 2 ++ fourBytes 3) refl
+
 -- a completion without data and with status 000 for tag 0, which has no effect
 abbrev pub nothingSaid : Call
 nothingSaid = receive (fourBytes 0x0A00_0000 ++ fourBytes 0x0008_0008 ++ fourBytes 0) refl
@@ -79,6 +86,16 @@ request = receive (fourBytes 0x7200_0002 ++ fourBytes 0x0200_0301 ++ fourBytes 0
 
 abbrev pub another : Call
 another = receive (fourBytes 0x7200_0002 ++ fourBytes 0x0300_0401 ++ fourBytes 0 ++ fourBytes 0 ++ fourBytes 0 ++ fourBytes 0x5000) refl
+
+-- one of ITag 3 from 0300h, and one with TD set, which does not read as a packet
+abbrev pub anothers : Call
+anothers = receive (fourBytes 0x7200_0002 ++ fourBytes 0x0300_0301 ++ fourBytes 0 ++ fourBytes 0 ++ fourBytes 0 ++ fourBytes 0x5000) refl
+
+abbrev pub garbled : Call
+garbled = receive (fourBytes 0x7200_8002 ++ fourBytes 0x0200_0301 ++ fourBytes 0 ++ fourBytes 0 ++ fourBytes 0 ++ fourBytes 0x5000) refl
+
+abbrev pub reset : Call
+reset = simply (Reset (record { id = 0; stu = 0; rcb = 64 })) refl
 
 abbrev pub three : Ticket
 three = record { agent = 0x0200; number = 3 }
@@ -131,6 +148,18 @@ large = next card begin (simply (Reset (record { id = 0; stu = 1; rcb = 64 })) r
 abbrev pub warmLarge : List Call
 warmLarge = simply (Access (record { direction = Read; address = 0x4000; dwords = 2 })) refl ∷ receive (fourBytes 0x4A00_0002 ++ fourBytes 0x0008_0008 ++ fourBytes 0x0000_0038 ++ fourBytes 0 ++ fourBytes 0x0010_0803) refl ∷ ask ∷ enable ∷ []
 
+-- the run as one record
+pub unbroken-warm : Unbroken card begin (request ∷ warm)
+unfolding computed
+unbroken-warm = (refl, (refl, (refl, (refl, (refl, (refl, tt))))))
+
+pub unbroken-anew : Unbroken card then anew
+unfolding computed
+unbroken-anew = (refl, (refl, (refl, (refl, (refl, (refl, (refl, (refl, (refl, tt)))))))))
+
+abbrev pub whole : Run card begin
+whole = record { before = warm; call = request; since = anew; unbroken = unbroken-warm; goesOn = unbroken-anew }
+
 -- What happens there: the read is open; the request is accepted; the first drains send nothing, the ITag waits, and the
 -- same request is refused with 9; then one completion is sent, the ITag no longer waits, and the request can come
 -- again; the old entry is deleted, and the old reply brings nothing; the new reply brings the new page into slot 0; the
@@ -157,7 +186,7 @@ pub record Happens : Type 0 where
   pub dropsLarge : heldIn (stateAfter card large (request ∷ warmLarge) .fn) 0 ≡ none
   pub holdsLarge : completions three (history card large (drain ∷ request ∷ warmLarge)) ≡ 0
   -- so that the premises of demand 3 can hold
-  pub speaks : Completed card begin warm request anew three page
+  pub speaks : Completed card whole three page
   pub completesLarge : completions three (history card large (drain ∷ bothParts ∷ drain ∷ request ∷ warmLarge)) ≡ 1
 
 pub happens : Happens
@@ -179,6 +208,6 @@ happens =
       rounds = refl;
       dropsLarge = refl;
       holdsLarge = refl;
-      speaks = record { arrived = record { unbroken = (refl, (refl, (refl, (refl, (refl, (refl, tt)))))); accepted = refl; goesOn = (refl, (refl, (refl, (refl, (refl, (refl, (refl, (refl, (refl, tt))))))))) }; sent = lit< tt };
+      speaks = (refl, lit< tt);
       completesLarge = refl;
     }

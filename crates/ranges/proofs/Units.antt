@@ -2,14 +2,17 @@
 use mathlib.Core.Path.{_≡_, refl, sym, ap, _∙_}
 use mathlib.Core.Bool.{true, _&&_}
 use Prim.Native.Nat.{ℕ, _+_, _-_, _*_, _/_, _%_, _^_, _<_, _≤_, min}
-use native.Mathlib.Nat.{mul-le-mul-right, add-mul, one-mul, le-trans, min-eq-left, min-le-right, le-min, div-mul-le-self, lt-div-mul-add, le-div-iff-mul-le, mul-assoc, div-add-mod', mul-add-mod-self-right}
+use native.Mathlib.Nat.{mul-le-mul-right, add-mul, one-mul, le-trans, min-eq-left, min-le-left, min-le-right, le-min, div-mul-le-self, lt-div-mul-add, le-div-iff-mul-le, mul-assoc, div-add-mod', mul-add-mod-self-right}
 use native.Mathlib.Omega.{arith}
 use lib.Pow.{pow-pos, pow-add, mod-mod-pow, shr-shr, shl-shr}
-use lib.Dec.{leb}
-use borrow.Author.Tests.{le-leb}
+use lib.Dec.{leb, lit≤}
+use borrow.Author.Tests.{le-leb, leb-true}
+use Rattle.lemmas.proofs.Cases.{and-both}
 use Rattle.lemmas.proofs.Powers.{region-lt}
 use Rattle.lemmas.proofs.Tests.{same-leb}
-use Rattle.ranges.specs.Range.{regionOf, rangeFrom, unitsFrom, unitExponent, unitBytes, unitCount, relocated, isWithin}
+use Rattle.ranges.proofs.Laws.{region-holds}
+use Rattle.ranges.specs.declared.Range.{Range}
+use Rattle.ranges.specs.Range.{regionOf, rangeFrom, unitsFrom, unitExponent, unitBytes, unitCount, relocated, overlaps, isWithin}
 
 -- the region of an address begins no later than the address,
 pub region-first : (a e : ℕ) → regionOf a e .first ≤ a
@@ -111,3 +114,28 @@ unitsFrom-holds a further stu j among inside =
         let top : x + (2 ^ e - 1) < 2 ^ 64 = rw own at (region-lt 64 e x low small) in
         let most = step-le j m (2 ^ e) few in
         rw (own, le-leb (n * 2 ^ e) x (omega arith)) (le-leb (x + (2 ^ e - 1)) (min (n * 2 ^ e + (m * 2 ^ e - 1)) (2 ^ 64 - 1)) (le-min (omega (arith, most)) (omega (arith, top))))
+
+-- the region of where a region begins is that region,
+pub region-again : (a e : ℕ) → regionOf (regionOf a e .first) e ≡ regionOf a e
+unfolding regionOf
+region-again a e = rw (shl-shr (a / 2 ^ min e 64) (min e 64))
+
+-- and n bytes within one page lie in the region of their first byte
+pub page-in-region : (a n e : ℕ) → 12 ≤ e → 1 ≤ n → a % 4096 + n ≤ 4096
+    → isWithin (rangeFrom a (n - 1)) (regionOf a e) ≡ true
+unfolding regionOf rangeFrom
+page-in-region a n e big some page =
+    let m = min e 64 in
+    let more : 12 ≤ m = le-min big (lit≤ tt) in
+    let h = region-holds a 12 m more in
+    let least = min-le-left (a + (n - 1)) (2 ^ 64 - 1) in
+    rw (le-leb (a / 2 ^ m * 2 ^ m) a (omega (arith, div-mul-le-self a (2 ^ m))), le-leb (min (a + (n - 1)) (2 ^ 64 - 1)) (a / 2 ^ m * 2 ^ m + (2 ^ m - 1)) (omega (arith, h .1, least, div-add-mod' a 4096)))
+
+-- a range that contains an overlapping one overlaps
+pub within-overlaps : (x y a : Range) → isWithin x y ≡ true → overlaps x a ≡ true → overlaps y a ≡ true
+within-overlaps x y a i o =
+    let in-it = and-both (leb (y .first) (x .first)) (leb (x .last) (y .last)) i in
+    let over = and-both (leb (x .first) (a .last)) (leb (a .first) (x .last)) o in
+    let low : y .first ≤ a .last = le-trans (leb-true (y .first) (x .first) (in-it .0)) (leb-true (x .first) (a .last) (over .0)) in
+    let high : a .first ≤ y .last = le-trans (leb-true (a .first) (x .last) (over .1)) (leb-true (x .last) (y .last) (in-it .1)) in
+    rw (le-leb (y .first) (a .last) low, le-leb (a .first) (y .last) high)

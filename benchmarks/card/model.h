@@ -287,7 +287,8 @@ static enum part part_of(const struct tag *t, unsigned rcb, unsigned count, unsi
     return on_boundary ? FIRST : MISFITS;
 }
 
-// A fill replaces the entry of its unit. Without one it takes the lowest slot that is free, or the one that the hand names.
+// A fill replaces the entry of its unit. Without one it takes the lowest slot that is free,
+// or the one that the hand names.
 static void fill(struct function *f, struct entry e) {
     struct entry *slot = find(f, e.unit);
     for (int i = 0; !slot && i < 32; i++)

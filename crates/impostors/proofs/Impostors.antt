@@ -73,8 +73,8 @@ by (some (CPL t n d)) x y z o = x
 by (some (INV i a)) x y z o = y
 by (some (DRAIN n)) x y z o = z
 
-abbrev brings : Call → Option (Taken terms)
-brings c = callTaken (record { id = 0; stu = 0 }) (c .command) (c .bytes)
+abbrev delivered : Call → Option (Taken terms)
+delivered c = callTaken (record { id = 0; stu = 0 }) (c .command) (c .bytes)
 
 abbrev withState : Observed → Function → Observed
 withState r f = record { state = f; answer = r .answer; sent = r .sent; buffer = r .buffer }
@@ -86,17 +86,17 @@ withBuffer r b = record { state = r .state; answer = r .answer; sent = r .sent; 
 
 -- it keeps the entries that an Invalidate Request should delete
 abbrev keeper : Function → Call → Observed
-keeper f c = let r = honest f c in by (brings c) r (withState r (withCache (r .state) (f .cache))) r r
+keeper f c = let r = honest f c in by (delivered c) r (withState r (withCache (r .state) (f .cache))) r r
 
 -- it deletes them, and all others, only when it drains
 abbrev tardy : Function → Call → Observed
 tardy f c =
     let r = honest f c in
-    by (brings c) r (withState r (withCache (r .state) (f .cache))) (withState r (withCache (r .state) (emptied (r .state .cache)))) r
+    by (delivered c) r (withState r (withCache (r .state) (f .cache))) (withState r (withCache (r .state) (emptied (r .state .cache)))) r
 
 -- an Invalidate Request changes the tags in a wrong way
 abbrev marking : (TagState → TagState) → Function → Call → Observed
-marking mark f c = let r = honest f c in by (brings c) r (withState r (withTags (r .state) (map (λ (p : TagRow). tagRow (mark (p .state))) (r .state .tags)))) r r
+marking mark f c = let r = honest f c in by (delivered c) r (withState r (withTags (r .state) (map (λ (p : TagRow). tagRow (mark (p .state))) (r .state .tags)))) r r
 
 -- it leaves Translation Requests live
 abbrev revived : TagState → TagState
@@ -133,7 +133,7 @@ countingOn left f r (some (INV i a)) = r
 countingOn left f r (some (DRAIN n)) = r
 
 abbrev counting : (PendingRead → ℕ → TagState) → Function → Call → Observed
-counting left f c = countingOn left f (honest f c) (brings c)
+counting left f c = countingOn left f (honest f c) (delivered c)
 
 -- it ends a read after any data for its tag
 abbrev early : Function → Call → Observed
@@ -145,38 +145,38 @@ repeater = counting (λ x n. cond (leb (x .due) n) Free (Reading (record { addre
 
 -- it accepts an Invalidate Request, does nothing, and sends a completion for no ITag
 abbrev hider : Function → Call → Observed
-hider f c = let r = honest f c in by (brings c) r (record { state = f; answer = ok (carries 0); sent = 16; buffer = bytesOf (invalidateCompletionPacket 0 (Known 0x0200) 0) [] }) r r
+hider f c = let r = honest f c in by (delivered c) r (record { state = f; answer = ok (carries 0); sent = 16; buffer = bytesOf (invalidateCompletionPacket 0 (Known 0x0200) 0) [] }) r r
 
 -- a drain never sends anything
-abbrev silent : Function → Call → Observed
-silent f c =
-    let r = honest f c in by (brings c) r r (record { state = f; answer = ok (carries 0); sent = 0; buffer = c .out }) r
+abbrev mute : Function → Call → Observed
+mute f c =
+    let r = honest f c in by (delivered c) r r (record { state = f; answer = ok (carries 0); sent = 0; buffer = c .out }) r
 
 -- it reports a packet's length and writes nothing
 abbrev unwritten : Function → Call → Observed
-unwritten f c = let r = honest f c in by (brings c) r r (withBuffer r (c .out)) r
+unwritten f c = let r = honest f c in by (delivered c) r r (withBuffer r (c .out)) r
 
 -- its completions have another sender's ID
 abbrev alias : Function → Call → Observed
-alias f c = let r = honest f c in by (brings c) r r (withBuffer r (bytesOf (invalidateCompletionPacket 9 (f .agent) (readyOf f)) [])) r
+alias f c = let r = honest f c in by (delivered c) r r (withBuffer r (bytesOf (invalidateCompletionPacket 9 (f .agent) (readyOf f)) [])) r
 
 -- its completions have Completion Count 2
 abbrev half : Function → Call → Observed
-half f c = let r = honest f c in by (brings c) r r (withBuffer r (set (r .buffer) 11 2)) r
+half f c = let r = honest f c in by (delivered c) r r (withBuffer r (set (r .buffer) 11 2)) r
 
 -- its completions go to another device
 abbrev astray : Function → Call → Observed
-astray f c = let r = honest f c in by (brings c) r r (withBuffer r (bytesOf (invalidateCompletionPacket (f .id) (Known 8) (readyOf f)) [])) r
+astray f c = let r = honest f c in by (delivered c) r r (withBuffer r (bytesOf (invalidateCompletionPacket (f .id) (Known 8) (readyOf f)) [])) r
 
 -- every request is sent with tag 0
 abbrev again : Function → Call → Observed
-again f c = let r = honest f c in by (brings c) r r r (withBuffer r (set (r .buffer) 6 0))
+again f c = let r = honest f c in by (delivered c) r r r (withBuffer r (set (r .buffer) 6 0))
 
 -- it sends a read of its own, whenever a call delivers none of these
 abbrev curious : Function → Call → Observed
 curious f c =
     let r = honest f c in
-    by (brings c) r r r (record { state = r .state; answer = ok done; sent = 12; buffer = bytesOf (memoryRequestPacket 0 (Fetches (record { 0 = 0 })) 1 (record { address = 0x7000; translated = true })) [] })
+    by (delivered c) r r r (record { state = r .state; answer = ok done; sent = 12; buffer = bytesOf (memoryRequestPacket 0 (Fetches (record { 0 = 0 })) 1 (record { address = 0x7000; translated = true })) [] })
 
 -- it takes a completion without data, and status 000, for the end of a read
 abbrev emptyIn : Body → Option ℕ
@@ -232,11 +232,11 @@ anyones f c = given (requester (reading (c .bytes))) (λ id. let r = honest (ren
 
 -- it takes Invalidate Requests from anyone
 abbrev obliging : Function → Call → Observed
-obliging f c = by (brings c) (honest f c) (honest (withAgent f Unknown) c) (honest f c) (honest f c)
+obliging f c = by (delivered c) (honest f c) (honest (withAgent f Unknown) c) (honest f c) (honest f c)
 
 -- it takes them even with an ITag that waits
 abbrev twofold : Function → Call → Observed
-twofold f c = by (brings c) (honest f c) (honest (withWaiting (withAgent f Unknown) 0) c) (honest f c) (honest f c)
+twofold f c = by (delivered c) (honest f c) (honest (withWaiting (withAgent f Unknown) 0) c) (honest f c) (honest f c)
 
 -- one additional read: translated, to 10 0000h, with tag 0, for any call
 abbrev parting : Observed → Observed
@@ -244,7 +244,7 @@ parting r = record { state = r .state; answer = r .answer; sent = 12; buffer = b
 
 -- it sends that read when it accepts an Invalidate Request
 abbrev lastWord : Function → Call → Observed
-lastWord f c = let r = honest f c in by (brings c) r (parting r) r r
+lastWord f c = let r = honest f c in by (delivered c) r (parting r) r r
 
 -- it sends that read when it is reset
 abbrev chatty : Function → Call → Observed
@@ -256,7 +256,7 @@ substitute f c = given (addressFor Write (c .command)) (λ a. parting (honest f 
 
 -- its packet has a byte 7 that no packet has, so that the observer sees no read
 abbrev mumbler : Function → Call → Observed
-mumbler f c = let r = honest f c in by (brings c) r r r (withBuffer r (set (r .buffer) 7 0x0E))
+mumbler f c = let r = honest f c in by (delivered c) r r r (withBuffer r (set (r .buffer) 7 0x0E))
 
 -- it keeps what it should delete, and shows an empty cache
 abbrev shadowCard : Machine observer
@@ -304,15 +304,15 @@ madeUp = record { used = true; r = true; w = true; n = false; u = false; unit = 
 
 abbrev inventor : Function → Call → Observed
 inventor f c =
-    let r = honest f c in by (brings c) r r r (withState r (withCache (r .state) (filledWith madeUp (r .state .cache))))
+    let r = honest f c in by (delivered c) r r r (withState r (withCache (r .state) (filledWith madeUp (r .state .cache))))
 
 -- it drains with a completion for no ITag
 abbrev hollow : Function → Call → Observed
-hollow f c = let r = honest f c in by (brings c) r r (withBuffer (record { state = f; answer = ok (carries 0); sent = 16; buffer = r .buffer }) (bytesOf (invalidateCompletionPacket 0 (Known 0x0200) 0) [])) r
+hollow f c = let r = honest f c in by (delivered c) r r (withBuffer (record { state = f; answer = ok (carries 0); sent = 16; buffer = r .buffer }) (bytesOf (invalidateCompletionPacket 0 (Known 0x0200) 0) [])) r
 
 -- it sends a PRG Response
 abbrev foreign : Function → Call → Observed
-foreign f c = let r = honest f c in by (brings c) r r r (record { state = r .state; answer = ok done; sent = 16; buffer = bytesOf (record { head = record { tc = 0; sender = 0 }; body = Prs (record { index = record { 0 = 0 }; device = 0; code = 0 }) }) [] })
+foreign f c = let r = honest f c in by (delivered c) r r r (record { state = r .state; answer = ok done; sent = 16; buffer = bytesOf (record { head = record { tc = 0; sender = 0 }; body = Prs (record { index = record { 0 = 0 }; device = 0; code = 0 }) }) [] })
 
 -- it shows old entries as free slots, and goes on using them
 abbrev buried : Entry → Entry
@@ -359,14 +359,14 @@ abbrev drawerMoves : Odd → Call → Odd
 drawerMoves x c =
     let g = honest (x .inner) c .state in
     let same : Odd = record { inner = g; drawer = x .drawer; spent = false } in
-    by (brings c) (record { inner = putBack g (x .drawer); drawer = x .drawer; spent = false }) (record { inner = g; drawer = entryAt (x .inner .cache) 0; spent = false }) same same
+    by (delivered c) (record { inner = putBack g (x .drawer); drawer = x .drawer; spent = false }) (record { inner = g; drawer = entryAt (x .inner .cache) 0; spent = false }) same same
 
 abbrev drawerCard : Machine observer
 drawerCard = oddBy drawerMoves (λ x c. honest (x .inner) c .buffer)
 
 -- it drains correctly once, and then only answers that it did
 abbrev idleMoves : Odd → Call → Odd
-idleMoves x c = record { inner = honest (x .inner) c .state; drawer = noEntry; spent = x .spent || by (brings c) false false true false }
+idleMoves x c = record { inner = honest (x .inner) c .state; drawer = noEntry; spent = x .spent || by (delivered c) false false true false }
 
 abbrev idleCard : Machine observer
 idleCard = oddBy idleMoves (λ x c. cond (x .spent) (c .out) (honest (x .inner) c .buffer))
@@ -433,7 +433,7 @@ pub record Refused : Type 1 where
   pub overfed : Order (cardBy overfed) → ⊥
   pub drawer : Order drawerCard → ⊥
   pub hider : Order (cardBy hider) → ⊥
-  pub silent : Order (cardBy silent) → ⊥
+  pub mute : Order (cardBy mute) → ⊥
   pub unwritten : Order (cardBy unwritten) → ⊥
   pub astray : Order (cardBy astray) → ⊥
   pub idle : Order idleCard → ⊥
@@ -474,7 +474,7 @@ refused =
       overfed = λ d. let M = cardBy overfed in no-some (sym (d .new .letter .reads (to M warm request (drain ∷ tooMany ∷ []) (refl, (refl, (refl, (refl, (refl, (refl, tt)))))) (refl, (refl, tt))) three page (refl, lit< tt) 0));
       drawer = λ d. let M = drawerCard in no-tf (sym (shown M d (to M cached request (granted ∷ simply (Ask (record { address = 0x9000; units = 1; nowrite = false })) refl ∷ drain ∷ []) (refl, (refl, (refl, (refl, tt)))) (refl, (refl, (refl, tt)))) (refl, lit< tt) 1 _ refl refl));
       hider = λ d. let M = cardBy hider in let z : _≡_ {A = ℕ} 1 0 = d .new .letter .counts (to M (request ∷ []) drain [] (refl, (refl, tt)) tt) three in omega arith;
-      silent = λ d. let M = cardBy silent in let z : _≡_ {A = ℕ} 1 0 = d .new .letter .counts (to M (request ∷ []) drain [] (refl, (refl, tt)) tt) three in omega arith;
+      mute = λ d. let M = cardBy mute in let z : _≡_ {A = ℕ} 1 0 = d .new .letter .counts (to M (request ∷ []) drain [] (refl, (refl, tt)) tt) three in omega arith;
       unwritten = λ d. let M = cardBy unwritten in let z : _≡_ {A = ℕ} 1 0 = d .new .letter .counts (to M (request ∷ []) drain [] (refl, (refl, tt)) tt) three in omega arith;
       astray = λ d. let M = cardBy astray in let z : _≡_ {A = ℕ} 1 0 = d .new .letter .counts (to M (request ∷ []) drain [] (refl, (refl, tt)) tt) three in omega arith;
       idle = λ d. let M = idleCard in let z : _≡_ {A = ℕ} 2 1 = d .new .letter .counts (to M (request ∷ drain ∷ request ∷ []) drain [] (refl, (refl, (refl, (refl, tt)))) tt) three in omega arith;

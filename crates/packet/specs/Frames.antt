@@ -4,6 +4,7 @@ use mathlib.Core.Bool.{cond}
 use mathlib.Core.List.{List, [], _∷_, _++_}
 use lib.ListN.{getD, length}
 use lib.Dec.{ltb}
+use Rattle.packet.specs.declared.Front.{Front}
 use Rattle.packet.specs.declared.Frame.{Frame}
 
 -- byte i of a packet
@@ -24,17 +25,18 @@ num64At b i = num32At b i * 2 ^ 32 + num32At b (i + 4)
 abbrev pub dwordsAt : List ℕ → ℕ
 dwordsAt b = byte b 2 % 4 * 256 + byte b 3
 
--- Byte 1 has TC in bits 6:4; byte 2 has TD and EP in bits 7:6 and AT in bits 3:2; bytes 4 and 5 are the sender's ID.
--- Bytes 12 to 15 count as 0 in a packet of fewer than 16 bytes, and the body in one of fewer than 24.
+-- byte 1 has TC in bits 6:4; byte 2 has TD and EP in bits 7:6; bytes 4 and 5 are the sender's ID
+abbrev pub decodeFront : List ℕ → Front
+decodeFront b = record { tc = byte b 1 / 16 % 8; marks = byte b 2 / 64; sender = num16At b 4 }
+
+-- Byte 2 has AT in bits 3:2. Bytes 12 to 15 count as 0 in a packet of fewer than 16 bytes, and the body in one of fewer than 24.
 unfoldable pub decodeFrame : List ℕ → Frame
 decodeFrame b =
     record {
       byte0 = byte b 0;
-      tc = byte b 1 / 16 % 8;
-      marks = byte b 2 / 64;
+      front = decodeFront b;
       at = byte b 2 / 4 % 4;
       dwords = dwordsAt b;
-      sender = num16At b 4;
       byte6 = byte b 6;
       byte7 = byte b 7;
       dword8 = num32At b 8;
@@ -50,11 +52,11 @@ fourBytes n = (n / 16777216 % 256) ∷ (n / 65536 % 256) ∷ (n / 256 % 256) ∷
 abbrev pub encodeFrame : Frame → List ℕ
 encodeFrame f =
     f .byte0
-    ∷ (f .tc % 8 * 16)
+    ∷ (f .front .tc % 8 * 16)
     ∷ (f .at % 4 * 4 + f .dwords / 256 % 4)
     ∷ (f .dwords % 256)
-    ∷ (f .sender / 256 % 256)
-    ∷ (f .sender % 256)
+    ∷ (f .front .sender / 256 % 256)
+    ∷ (f .front .sender % 256)
     ∷ f .byte6
     ∷ f .byte7
     ∷ (fourBytes (f .dword8) ++ fourBytes (f .dword12) ++ fourBytes (f .body / 2 ^ 32) ++ fourBytes (f .body % 2 ^ 32))

@@ -2,6 +2,7 @@
 use Prim.Native.Nat.{ℕ, _+_, _*_, _/_, _%_, _^_}
 use mathlib.Core.Bool.{Bool, true, cond, not, _&&_}
 use lib.Dec.{ltb, leb, eqb}
+use Rattle.packet.specs.declared.Front.{Front}
 use Rattle.packet.specs.declared.Frame.{Frame}
 use Rattle.packet.specs.declared.Form.{Form}
 use Rattle.packet.specs.declared.Form.the-variants.{Mrd32, Mrd64, Mwr32, Mwr64, CplNoData, CplData, InvReq, InvCpl, PageReq, PrgResp}
@@ -17,7 +18,7 @@ use Rattle.packet.specs.Forms.{byte0Of, dwordCount, byteEnables}
 
 -- ---- the fields of a frame
 
-abbrev pub headIn : Frame → Head
+abbrev pub headIn : Front → Head
 headIn f = record { tc = f .tc; sender = f .sender }
 
 -- the address of the 64-bit forms, and the QWORD that a Page Request has there
@@ -103,7 +104,7 @@ bodyIn PageReq f = prqIn (address64In f)
 bodyIn PrgResp f = prsIn f
 
 abbrev pub packetIn : Form → Frame → Packet
-packetIn m f = record { head = headIn f; body = bodyIn m f }
+packetIn m f = record { head = headIn (f .front); body = bodyIn m f }
 
 -- ---- forbidden values that no field of a packet can hold, so that only the frame shows them
 
@@ -244,101 +245,91 @@ abbrev pub outcomeStatus : Outcome → ℕ
 outcomeStatus (Data w) = 0
 outcomeStatus (Status s) = s
 
-unfoldable pub packetFrame : Head → Body → Frame
-packetFrame h (Tr t) =
+-- TD and EP are written as zero
+abbrev pub frontOf : Head → Front
+frontOf h = record { tc = h .tc; marks = 0; sender = h .sender }
+
+unfoldable pub packetFrame : Front → Body → Frame
+packetFrame front (Tr t) =
     let a = t .address / 4096 * 4096 + bitOf (t .nowrite) in
     record {
       byte0 = byte0Of (formOf (Tr t));
-      tc = h .tc;
-      marks = 0;
+      front = front;
       at = 1;
       dwords = t .dwords;
-      sender = h .sender;
       byte6 = t .tag .0;
       byte7 = 0xFF;
       dword8 = addressDword8 a;
       dword12 = addressDword12 a;
       body = 0;
     }
-packetFrame h (Mem m) =
+packetFrame front (Mem m) =
     record {
       byte0 = byte0Of (formOf (Mem m));
-      tc = h .tc;
-      marks = 0;
+      front = front;
       at = bitOf (m .translated) * 2;
       dwords = m .dwords;
-      sender = h .sender;
       byte6 = accessTag (m .access);
       byte7 = byteEnables (m .dwords);
       dword8 = addressDword8 (m .address);
       dword12 = addressDword12 (m .address);
       body = 0;
     }
-packetFrame h (Cpl c) =
+packetFrame front (Cpl c) =
     record {
       byte0 = byte0Of (formOf (Cpl c));
-      tc = h .tc;
-      marks = 0;
+      front = front;
       at = 0;
       dwords = outcomeDwords (c .outcome);
-      sender = h .sender;
       byte6 = outcomeStatus (c .outcome) % 8 * 32 + c .count / 256 % 16;
       byte7 = c .count % 256;
       dword8 = c .requester * 65536 + c .tag .0 * 256 + c .lower;
       dword12 = 0;
       body = 0;
     }
-packetFrame h (Inv i) =
+packetFrame front (Inv i) =
     record {
       byte0 = byte0Of InvReq;
-      tc = h .tc;
-      marks = 0;
+      front = front;
       at = 0;
       dwords = 2;
-      sender = h .sender;
       byte6 = i .itag .0;
       byte7 = 0x01;
       dword8 = i .device * 65536;
       dword12 = 0;
       body = i .address / 4096 * 4096 + bitOf (i .sized) * 2048;
     }
-packetFrame h (Ic i) =
+packetFrame front (Ic i) =
     record {
       byte0 = byte0Of InvCpl;
-      tc = h .tc;
-      marks = 0;
+      front = front;
       at = 0;
       dwords = 0;
-      sender = h .sender;
       byte6 = 0;
       byte7 = 0x02;
       dword8 = i .device * 65536 + i .cc;
       dword12 = i .vector;
       body = 0;
     }
-packetFrame h (Prq q) =
+packetFrame front (Prq q) =
     let a = q .page / 4096 * 4096 + q .index .0 % 512 * 8 + bitOf (q .last) * 4 + bitOf (q .write) * 2 + bitOf (q .read) in
     record {
       byte0 = byte0Of PageReq;
-      tc = h .tc;
-      marks = 0;
+      front = front;
       at = 0;
       dwords = 0;
-      sender = h .sender;
       byte6 = 0;
       byte7 = 0x04;
       dword8 = a / 2 ^ 32;
       dword12 = a % 2 ^ 32;
       body = 0;
     }
-packetFrame h (Prs s) =
+packetFrame front (Prs s) =
     record {
       byte0 = byte0Of PrgResp;
-      tc = h .tc;
-      marks = 0;
+      front = front;
       at = 0;
       dwords = 0;
-      sender = h .sender;
       byte6 = 0;
       byte7 = 0x05;
       dword8 = s .device * 65536 + s .code % 16 * 4096 + s .index .0 % 512;

@@ -141,15 +141,20 @@ pub enum Choice {
     Unlisted,
 }
 
-// A decoded header, with the body of an Invalidate Request. Fields have the values of the bytes. A
-// field whose meaning depends on the kind is named by its position. `marks` is TD and EP.
-pub struct Frame {
-    pub byte0: u8,
+// The values of the bits that mean the same in every kind. `marks` is TD and EP.
+pub struct Front {
     pub tc: u8,
     pub marks: u8,
+    pub sender: u16,
+}
+
+// A decoded header, with the body of an Invalidate Request. Fields have the values of the bytes. A
+// field whose meaning depends on the kind is named by its position.
+pub struct Frame {
+    pub byte0: u8,
+    pub front: Front,
     pub at: u8,
     pub dwords: u16,
-    pub sender: u16,
     pub byte6: u8,
     pub byte7: u8,
     pub dword8: u32,

@@ -4,6 +4,7 @@ use packet::Body;
 use packet::Completion;
 use packet::Form;
 use packet::Frame;
+use packet::Front;
 use packet::Head;
 use packet::ITag;
 use packet::InvalidateCompletion;
@@ -19,7 +20,7 @@ ghost use mathlib.Core.Path.{_≡_};
 ghost use Rattle.packet.specs.Kinds.{headIn, address64In, trIn, memIn, readRequestIn, countIn, cplIn, invIn, icIn, prqIn, prsIn, bodyIn};
 
 // Traffic Class and sender's ID.
-pub(crate) fn head(f: Frame) -> Head
+pub(crate) fn head(f: Front) -> Head
     ensures { λ r. ⌜ r ≡ headIn f ⌝ }
 {
     Head {

@@ -7,12 +7,13 @@ mod order;
 
 use packet::Choice;
 use packet::Frame;
+use packet::Front;
 use packet::Reading;
 use packet::Refusal;
 ghost use mathlib.Core.Path.{_≡_};
 ghost use Prim.Native.Nat.{_≤_};
 ghost use lib.ListN.{length, drop};
-ghost use Rattle.packet.specs.Frames.{decodeFrame, dwordsAt};
+ghost use Rattle.packet.specs.Frames.{decodeFront, decodeFrame, dwordsAt};
 ghost use Rattle.packet.specs.Reading.{readResult, reading, payloadIn, qwordAt};
 
 fn dwords(b: &[u8]) -> u16
@@ -22,17 +23,26 @@ fn dwords(b: &[u8]) -> u16
     nums::at(b, 2) % 4 * 256 + nums::at(b, 3)
 }
 
+fn decode_front(b: &[u8]) -> Front
+    requires { ⌜ 12 ≤ length (now b) ⌝ }
+    ensures { λ r. ⌜ r ≡ decodeFront (now (b .entry)) ⌝ }
+{
+    Front {
+        tc: b[1] / 16 % 8,
+        marks: b[2] / 64,
+        sender: nums::num16(b, 4),
+    }
+}
+
 fn decode_frame(b: &[u8]) -> Frame
     requires { ⌜ 12 ≤ length (now b) ⌝ }
     ensures { λ r. ⌜ r ≡ decodeFrame (now (b .entry)) ⌝ }
 {
     Frame {
         byte0: b[0],
-        tc: b[1] / 16 % 8,
-        marks: b[2] / 64,
+        front: decode_front(b),
         at: b[2] / 4 % 4,
         dwords: dwords(b),
-        sender: nums::num16(b, 4),
         byte6: b[6],
         byte7: b[7],
         dword8: nums::num32(b, 8),

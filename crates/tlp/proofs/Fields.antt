@@ -23,9 +23,9 @@ use Rattle.packet.specs.declared.PrgResponse.{PrgResponse}
 use Rattle.packet.specs.declared.Body.{Body}
 use Rattle.packet.specs.declared.Body.the-variants.{Tr, Mem, Cpl, Inv, Ic, Prq, Prs}
 use Rattle.packet.specs.Forms.{choose, byte0Of, payloadOffset, packetLength, byteEnables, dwordCount}
-use Rattle.packet.specs.Kinds.{headIn, address64In, readRequestIn, memIn, bodyIn, wellFormedMem, wellFormedReadRequest, wellFormed, shortEnough, allowedOutcome, allowedBody, bodyInRange, accessPayloadLength, outcomePayloadLength, payloadLength, needs64Bits, accessForm, outcomeForm, formOf, bitOf, addressDword8, addressDword12, packetFrame}
+use Rattle.packet.specs.Kinds.{headIn, frontOf, address64In, readRequestIn, memIn, bodyIn, wellFormedMem, wellFormedReadRequest, wellFormed, shortEnough, allowedOutcome, allowedBody, bodyInRange, accessPayloadLength, outcomePayloadLength, payloadLength, needs64Bits, accessForm, outcomeForm, formOf, bitOf, addressDword8, addressDword12, packetFrame}
 use Rattle.lemmas.proofs.Cases.{byCases, and-both}
-use Rattle.tlp.proofs.Frames.{Sound, halves}
+use Rattle.tlp.proofs.Frames.{SoundFront, Sound, halves}
 use Rattle.tlp.specs.Fields.{TypedAccess, TypedBody, Typed}
 
 -- packets whose fields fit their types
@@ -107,13 +107,13 @@ stores false = record { body = λ f. refl; shape = λ f. refl; chosen = λ b7. r
 
 -- what holds of a packet's frame
 pub record Framed (h : Head) (b : Body) : Type 0 where
-  pub sound : Sound (packetFrame h b)
-  pub marks : packetFrame h b .marks ≡ 0
-  pub front : headIn (packetFrame h b) ≡ h
-  pub chosen : choose (packetFrame h b .byte0) (packetFrame h b .byte7) ≡ Listed (formOf b)
-  pub shape : wellFormed (formOf b) (packetFrame h b) ≡ true
-  pub back : bodyIn (formOf b) (packetFrame h b) ≡ b
-  pub long : packetLength (formOf b) (packetFrame h b .dwords) ≡ payloadOffset (formOf b) + payloadLength b
+  pub sound : Sound (packetFrame (frontOf h) b)
+  pub marks : packetFrame (frontOf h) b .front .marks ≡ 0
+  pub head : headIn (packetFrame (frontOf h) b .front) ≡ h
+  pub chosen : choose (packetFrame (frontOf h) b .byte0) (packetFrame (frontOf h) b .byte7) ≡ Listed (formOf b)
+  pub shape : wellFormed (formOf b) (packetFrame (frontOf h) b) ≡ true
+  pub back : bodyIn (formOf b) (packetFrame (frontOf h) b) ≡ b
+  pub long : packetLength (formOf b) (packetFrame (frontOf h) b .dwords) ≡ payloadOffset (formOf b) + payloadLength b
 
 -- TR: the number that holds an address a and No Write
 module _ (a n : ℕ) (z : a % 4096 ≡ 0) (h : n ≤ 1) where
@@ -196,20 +196,18 @@ module _ (d c i : ℕ) (hd : d < 65536) (hc : c < 16) (hi : i < 512) where
       let y : (d * 65536 + c * 4096 + i) / 4096 ≡ d * 16 + c = omega arith in
       rw (p, q) (omega arith, rw y (omega arith), omega arith, omega arith)
 
--- a frame's bounds: those of bytes 0 to 3, of bytes 6 and 7, of the rest
-seat : {f : Frame} → f .tc < 8 → f .sender < 65536 →
-    (f .byte0 < 256) × (f .marks < 4) × (f .at < 4) × (f .dwords < 1024) →
+-- a frame's bounds: those of its front, of bytes 0 to 3, of bytes 6 and 7, of the rest
+seat : {f : Frame} → SoundFront (f .front) →
+    (f .byte0 < 256) × (f .at < 4) × (f .dwords < 1024) →
     (f .byte6 < 256) × (f .byte7 < 256) →
     (f .dword8 < 2 ^ 32) × (f .dword12 < 2 ^ 32) × (f .body < 2 ^ 64) →
     Sound f
-seat tc sender front pair rest =
+seat front start pair rest =
     record {
-      byte0 = front .0;
-      tc = tc;
-      marks = front .1;
-      at = front .2;
-      dwords = front .3;
-      sender = sender;
+      byte0 = start .0;
+      front = front;
+      at = start .1;
+      dwords = start .2;
       byte6 = pair .0;
       byte7 = pair .1;
       dword8 = rest .0;
@@ -218,6 +216,9 @@ seat tc sender front pair rest =
     }
 
 module _ (h : Head) (htc : h .tc < 8) (hs : h .sender < 65536) where
+  sound-head : SoundFront (frontOf h)
+  sound-head = record { tc = htc; marks = lit≤ tt; sender = hs }
+
   tr-framed : (t : TranslationRequest) → bodyInRange (Tr t) ≡ true → TypedBody (Tr t) → Framed h (Tr t)
   unfolding packetFrame formOf bodyInRange TypedBody payloadLength
   tr-framed t e ty =
@@ -229,9 +230,9 @@ module _ (h : Head) (htc : h .tc < 8) (hs : h .sender < 65536) where
       let w = tr-wide (t .address) n z hn in
       let a = t .address + n in
       record {
-        sound = seat htc hs (fetches (needs64Bits (t .address)) .first, lit≤ tt, lit≤ tt, ltb-true (t .dwords) 1024 (p .0)) (ty .0, lit≤ tt) (rw (x .0) (upper-lt a (tr-lt (t .address) n z hn (ty .1))), rw (x .0) (lower-lt a), lit≤ tt);
+        sound = seat sound-head (fetches (needs64Bits (t .address)) .first, lit≤ tt, ltb-true (t .dwords) 1024 (p .0)) (ty .0, lit≤ tt) (rw (x .0) (upper-lt a (tr-lt (t .address) n z hn (ty .1))), rw (x .0) (lower-lt a), lit≤ tt);
         marks = refl;
-        front = refl;
+        head = refl;
         chosen = fetches (needs64Bits (t .address)) .chosen _;
         shape = fetches (needs64Bits (t .address)) .shape _ ∙ rw (x .0, ← w) (upper-shape a true refl);
         back = fetches (needs64Bits (t .address)) .body _ ∙ rw (x .0, ← w, address-back a, x .1, x .2, bit-back (t .nowrite));
@@ -246,9 +247,9 @@ module _ (h : Head) (htc : h .tc < 8) (hs : h .sender < 65536) where
       let p = and-both (ltb dwords 1024) (eqb (a % 4) 0) e in
       let x = at-back t in
       record {
-        sound = seat htc hs (fetches (needs64Bits a) .first, lit≤ tt, x .3, ltb-true dwords 1024 (p .0)) (ty .0, enables-lt dwords) (upper-lt a (ty .1), lower-lt a, lit≤ tt);
+        sound = seat sound-head (fetches (needs64Bits a) .first, x .3, ltb-true dwords 1024 (p .0)) (ty .0, enables-lt dwords) (upper-lt a (ty .1), lower-lt a, lit≤ tt);
         marks = refl;
-        front = refl;
+        head = refl;
         chosen = fetches (needs64Bits a) .chosen (byteEnables dwords);
         shape = fetches (needs64Bits a) .shape _ ∙ rw (x .0, x .1, self (byteEnables dwords)) (upper-shape a true refl);
         back = fetches (needs64Bits a) .body _ ∙ rw (x .0, x .2, address-back a, mem-word a (eqb-true (a % 4) 0 (p .1)));
@@ -258,9 +259,9 @@ module _ (h : Head) (htc : h .tc < 8) (hs : h .sender < 65536) where
       let p = and-both (ltb dwords 1024) (eqb (a % 4) 0) e in
       let x = at-back t in
       record {
-        sound = seat htc hs (stores (needs64Bits a) .first, lit≤ tt, x .3, ltb-true dwords 1024 (p .0)) (lit≤ tt, enables-lt dwords) (upper-lt a (ty .1), lower-lt a, lit≤ tt);
+        sound = seat sound-head (stores (needs64Bits a) .first, x .3, ltb-true dwords 1024 (p .0)) (lit≤ tt, enables-lt dwords) (upper-lt a (ty .1), lower-lt a, lit≤ tt);
         marks = refl;
-        front = refl;
+        head = refl;
         chosen = stores (needs64Bits a) .chosen (byteEnables dwords);
         shape = stores (needs64Bits a) .shape _ ∙ rw (x .1, self (byteEnables dwords)) (upper-shape a true refl);
         back = stores (needs64Bits a) .body _ ∙ rw (x .2, address-back a, mem-word a (eqb-true (a % 4) 0 (p .1)));
@@ -277,9 +278,9 @@ module _ (h : Head) (htc : h .tc < 8) (hs : h .sender < 65536) where
       let x = cpl-bytes 0 n (lit≤ tt) (ltb-true n 4096 (p .0)) in
       let y = cpl-word d t l (ty .0) (ty .1) (ltb-true l 128 (q .0)) in
       record {
-        sound = seat htc hs (lit≤ tt, lit≤ tt, lit≤ tt, ltb-true w 1024 (q .1)) (x .2, x .3) (y .3, lit≤ tt, lit≤ tt);
+        sound = seat sound-head (lit≤ tt, lit≤ tt, ltb-true w 1024 (q .1)) (x .2, x .3) (y .3, lit≤ tt, lit≤ tt);
         marks = refl;
-        front = refl;
+        head = refl;
         chosen = refl;
         shape = rw (x .0);
         back = rw (x .1, y .0, y .1, y .2);
@@ -291,9 +292,9 @@ module _ (h : Head) (htc : h .tc < 8) (hs : h .sender < 65536) where
       let x = cpl-bytes s n (ltb-true s 8 (q .1)) (ltb-true n 4096 (p .0)) in
       let y = cpl-word d t l (ty .0) (ty .1) (ltb-true l 128 (q .0)) in
       record {
-        sound = seat htc hs (lit≤ tt, lit≤ tt, lit≤ tt, lit≤ tt) (x .2, x .3) (y .3, lit≤ tt, lit≤ tt);
+        sound = seat sound-head (lit≤ tt, lit≤ tt, lit≤ tt) (x .2, x .3) (y .3, lit≤ tt, lit≤ tt);
         marks = refl;
-        front = refl;
+        head = refl;
         chosen = refl;
         shape = refl;
         back = rw (x .0, x .1, y .0, y .1, y .2);
@@ -309,9 +310,9 @@ module _ (h : Head) (htc : h .tc < 8) (hs : h .sender < 65536) where
       let x = inv-word (i .address) (bitOf (i .sized)) (eqb-true (i .address % 4096) 0 (p .1)) (bit-le (i .sized)) (ty .1) in
       let d : (i .device * 65536 / 65536 ≡ i .device) × (i .device * 65536 < 2 ^ 32) = (omega arith, omega (arith, ty .0)) in
       record {
-        sound = seat htc hs (lit≤ tt, lit≤ tt, lit≤ tt, lit≤ tt) (g .0, lit≤ tt) (d .1, lit≤ tt, x .2);
+        sound = seat sound-head (lit≤ tt, lit≤ tt, lit≤ tt) (g .0, lit≤ tt) (d .1, lit≤ tt, x .2);
         marks = refl;
-        front = refl;
+        head = refl;
         chosen = refl;
         shape = refl;
         back = rw (g .1, d .0, x .0, x .1, bit-back (i .sized));
@@ -326,9 +327,9 @@ module _ (h : Head) (htc : h .tc < 8) (hs : h .sender < 65536) where
       let d = device-word (i .device) (i .cc) (ty .0) g in
       let c : (i .device * 65536 + i .cc) % 8 ≡ i .cc = omega arith in
       record {
-        sound = seat htc hs (lit≤ tt, lit≤ tt, lit≤ tt, lit≤ tt) (lit≤ tt, lit≤ tt) (d .1, ty .1, lit≤ tt);
+        sound = seat sound-head (lit≤ tt, lit≤ tt, lit≤ tt) (lit≤ tt, lit≤ tt) (d .1, ty .1, lit≤ tt);
         marks = refl;
-        front = refl;
+        head = refl;
         chosen = refl;
         shape = refl;
         back = rw (d .0, c);
@@ -347,9 +348,9 @@ module _ (h : Head) (htc : h .tc < 8) (hs : h .sender < 65536) where
       let a = q .page / 4096 * 4096 + i % 512 * 8 + l * 4 + w * 2 + r in
       let g = halves-lt a (x .5) in
       record {
-        sound = seat htc hs (lit≤ tt, lit≤ tt, lit≤ tt, lit≤ tt) (lit≤ tt, lit≤ tt) (g .0, g .1, lit≤ tt);
+        sound = seat sound-head (lit≤ tt, lit≤ tt, lit≤ tt) (lit≤ tt, lit≤ tt) (g .0, g .1, lit≤ tt);
         marks = refl;
-        front = refl;
+        head = refl;
         chosen = refl;
         shape = refl;
         back = rw (halves a, x .0, x .1, x .2, x .3, x .4, bit-back (q .last), bit-back (q .write), bit-back (q .read));
@@ -362,9 +363,9 @@ module _ (h : Head) (htc : h .tc < 8) (hs : h .sender < 65536) where
       let p = and-both (ltb (s .code) 16) (ltb (s .index .0) 512) e in
       let x = prs-word (s .device) (s .code) (s .index .0) ty (ltb-true (s .code) 16 (p .0)) (ltb-true (s .index .0) 512 (p .1)) in
       record {
-        sound = seat htc hs (lit≤ tt, lit≤ tt, lit≤ tt, lit≤ tt) (lit≤ tt, lit≤ tt) (x .3, lit≤ tt, lit≤ tt);
+        sound = seat sound-head (lit≤ tt, lit≤ tt, lit≤ tt) (lit≤ tt, lit≤ tt) (x .3, lit≤ tt, lit≤ tt);
         marks = refl;
-        front = refl;
+        head = refl;
         chosen = refl;
         shape = refl;
         back = rw (x .0, x .1, x .2);

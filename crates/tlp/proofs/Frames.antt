@@ -8,23 +8,27 @@ use mathlib.Core.List.{List, [], _∷_, _++_}
 use lib.ListN.{length, take}
 use lib.Dec.{ltb, lit≤}
 use borrow.Author.Tests.{le-ltb}
+use Rattle.packet.specs.declared.Front.{Front}
 use Rattle.packet.specs.declared.Frame.{Frame}
 use Rattle.packet.specs.declared.Form.{Form}
 use Rattle.packet.specs.declared.Form.the-variants.{Mrd32, Mrd64, Mwr32, Mwr64, CplNoData, CplData, InvReq, InvCpl, PageReq, PrgResp}
-use Rattle.packet.specs.Frames.{byte, num16At, num32At, num64At, decodeFrame, fourBytes, encodeFrame}
+use Rattle.packet.specs.Frames.{byte, num16At, num32At, num64At, decodeFront, decodeFrame, fourBytes, encodeFrame}
 use Rattle.packet.specs.Forms.{payloadOffset}
-use Rattle.packet.specs.Kinds.{bodyIn, wellFormed}
+use Rattle.packet.specs.Kinds.{headIn, frontOf, bodyIn, wellFormed}
 use Rattle.packet.specs.Reading.{readForm}
 use Rattle.tlp.specs.Bytes.{Bytes}
 
 -- each field of a frame fits the bits that it has in the bytes
-pub record Sound (f : Frame) : Type 0 where
-  pub byte0 : f .byte0 < 256
+pub record SoundFront (f : Front) : Type 0 where
   pub tc : f .tc < 8
   pub marks : f .marks < 4
+  pub sender : f .sender < 65536
+
+pub record Sound (f : Frame) : Type 0 where
+  pub byte0 : f .byte0 < 256
+  pub front : SoundFront (f .front)
   pub at : f .at < 4
   pub dwords : f .dwords < 1024
-  pub sender : f .sender < 65536
   pub byte6 : f .byte6 < 256
   pub byte7 : f .byte7 < 256
   pub dword8 : f .dword8 < 2 ^ 32
@@ -36,11 +40,9 @@ abbrev pub upTo : ℕ → Frame → Frame
 upTo n f =
     record {
       byte0 = f .byte0;
-      tc = f .tc;
-      marks = f .marks;
+      front = f .front;
       at = f .at;
       dwords = f .dwords;
-      sender = f .sender;
       byte6 = f .byte6;
       byte7 = f .byte7;
       dword8 = f .dword8;
@@ -106,11 +108,9 @@ abbrev ending : Frame → ℕ → ℕ → Frame
 ending f d b =
     record {
       byte0 = f .byte0;
-      tc = f .tc;
-      marks = f .marks;
+      front = f .front;
       at = f .at;
       dwords = f .dwords;
-      sender = f .sender;
       byte6 = f .byte6;
       byte7 = f .byte7;
       dword8 = f .dword8;
@@ -118,7 +118,11 @@ ending f d b =
       body = b;
     }
 
-module _ (f : Frame) (s : Sound f) (z : f .marks ≡ 0) where
+-- a front without TD and EP is made again from its head
+pub front-back : (g : Front) → g .marks ≡ 0 → frontOf (headIn g) ≡ g
+front-back g z = ap (λ (m : ℕ). record { tc = g .tc; marks = m; sender = g .sender }) (sym z)
+
+module _ (f : Frame) (s : Sound f) (z : f .front .marks ≡ 0) where
   -- what the first 12 bytes determine, whatever follows them
   first : (rest : List ℕ) →
       decodeFrame (take 12 (encodeFrame f) ++ rest)
@@ -126,7 +130,7 @@ module _ (f : Frame) (s : Sound f) (z : f .marks ≡ 0) where
   unfolding decodeFrame
   first rest =
       let b = byte2-back (f .at) (f .dwords) (s .at) (s .dwords) in
-      simp (tc-back (f .tc) (s .tc), b .0, b .1, b .2, two-back (f .sender) (s .sender), four-back (f .dword8) (s .dword8), z)
+      simp (tc-back (f .front .tc) (s .front .tc), b .0, b .1, b .2, two-back (f .front .sender) (s .front .sender), four-back (f .dword8) (s .dword8), front-back (f .front) z)
 
   abbrev Back : ℕ → List ℕ → Type 0
   Back n pay = upTo n (decodeFrame (take n (encodeFrame f) ++ pay)) ≡ upTo n f
@@ -197,11 +201,9 @@ unfolding decodeFrame
 frame-sound b h =
     record {
       byte0 = h 0;
-      tc = mod-lt (byte b 1 / 16) (lit≤ tt);
-      marks = marks-lt (byte b 2) (h 2);
+      front = record { tc = mod-lt (byte b 1 / 16) (lit≤ tt); marks = marks-lt (byte b 2) (h 2); sender = num16-lt b h 4 };
       at = mod-lt (byte b 2 / 4) (lit≤ tt);
       dwords = words-lt (byte b 2) (byte b 3) (h 3);
-      sender = num16-lt b h 4;
       byte6 = h 6;
       byte7 = h 7;
       dword8 = num32-lt b h 8;
@@ -224,11 +226,9 @@ abbrev full : List ℕ → Frame
 full b =
     record {
       byte0 = byte b 0;
-      tc = byte b 1 / 16 % 8;
-      marks = byte b 2 / 64;
+      front = decodeFront b;
       at = byte b 2 / 4 % 4;
       dwords = byte b 2 % 4 * 256 + byte b 3;
-      sender = num16At b 4;
       byte6 = byte b 6;
       byte7 = byte b 7;
       dword8 = num32At b 8;

@@ -103,7 +103,7 @@ module _ (b : List ℕ) (p : Packet) (h : Bytes b) (e : reading b ≡ ok p) wher
       let t = told b p h e in
       let s = frame-sound b h in
       record {
-        sender = rw (← t .whole) (s .sender);
+        sender = rw (← t .whole) (s .front .sender);
         body = rw (← t .whole) (typed-in (t .form) (decodeFrame b) s);
       }
 

@@ -10,6 +10,7 @@ use lib.ListN.{length, drop}
 use lib.Bits.{bitAnd, and-block, and-shr, and-mod, and-zero-r, and-le-l}
 use lib.Dec.{ltb, lit≤}
 use borrow.Author.Tests.{ltb-false}
+use Rattle.packet.specs.declared.Front.{Front}
 use Rattle.packet.specs.declared.Frame.{Frame}
 use Rattle.packet.specs.Frames.{byte, num16At, num32At, num64At, decodeFrame}
 use Rattle.packet.specs.Normal.{masked}
@@ -70,15 +71,17 @@ module _ (ms b : List ℕ) (hm : Bytes ms) (hb : Bytes b) where
 -- ---- frames
 
 -- the bitwise AND of two frames
+abbrev meetFront : Front → Front → Front
+meetFront f g =
+    record { tc = bitAnd (f .tc) (g .tc); marks = bitAnd (f .marks) (g .marks); sender = bitAnd (f .sender) (g .sender) }
+
 abbrev pub meet : Frame → Frame → Frame
 meet f g =
     record {
       byte0 = bitAnd (f .byte0) (g .byte0);
-      tc = bitAnd (f .tc) (g .tc);
-      marks = bitAnd (f .marks) (g .marks);
+      front = meetFront (f .front) (g .front);
       at = bitAnd (f .at) (g .at);
       dwords = bitAnd (f .dwords) (g .dwords);
-      sender = bitAnd (f .sender) (g .sender);
       byte6 = bitAnd (f .byte6) (g .byte6);
       byte7 = bitAnd (f .byte7) (g .byte7);
       dword8 = bitAnd (f .dword8) (g .dword8);

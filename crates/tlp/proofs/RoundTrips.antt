@@ -16,7 +16,7 @@ use Rattle.packet.specs.declared.Choice.the-variants.{Listed, Unlisted}
 use Rattle.packet.specs.Numbers.{Result, ok, refusal, refuse}
 use Rattle.packet.specs.Frames.{byte, decodeFrame, encodeFrame}
 use Rattle.packet.specs.Forms.{choose, payloadOffset, packetLength}
-use Rattle.packet.specs.Kinds.{headIn, wellFormed, bodyIn, packetIn, fieldsInRange, allowed, payloadLength, formOf, packetFrame}
+use Rattle.packet.specs.Kinds.{headIn, wellFormed, bodyIn, packetIn, fieldsInRange, allowed, payloadLength, formOf, frontOf, packetFrame}
 use Rattle.packet.specs.Reading.{readForm, readFrame, readChoice, reading, payloadIn}
 use Rattle.packet.specs.Writing.{writing, bytesOf, bufferAfter}
 use Rattle.packet.specs.Normal.{maskOf, masked, normalAs, normal}
@@ -51,10 +51,10 @@ unfolding decodeFrame
 read-by-form b m n e = ap (λ (c : Choice). readChoice c (decodeFrame b) n) e
 
 -- a frame that passes each test is read as its packet
-read-whole : (m : Form) (f : Frame) (n : ℕ) → n ≡ packetLength m (f .dwords) → f .marks ≡ 0 → wellFormed m f ≡ true
+read-whole : (m : Form) (f : Frame) (n : ℕ) → n ≡ packetLength m (f .dwords) → f .front .marks ≡ 0 → wellFormed m f ≡ true
     → allowed (packetIn m f) ≡ true → readForm m f n ≡ ok (packetIn m f)
 unfolding readForm
-read-whole m f n l z s a = rw (eq-eqb n (packetLength m (f .dwords)) l, eq-eqb (f .marks) 0 z, s, a)
+read-whole m f n l z s a = rw (eq-eqb n (packetLength m (f .dwords)) l, eq-eqb (f .front .marks) 0 z, s, a)
 
 module _ (p : Packet) (payload : List ℕ) (room n : ℕ) (ty : Typed p) (e : writing p (length payload) room ≡ ok n) where
   pub written-length : length (bytesOf p payload) ≡ n
@@ -69,10 +69,10 @@ module _ (p : Packet) (payload : List ℕ) (room n : ℕ) (ty : Typed p) (e : wr
 
   -- the first fields of a written packet are those of its frame
   upTo-back : upTo (payloadOffset (formOf (p .body))) (decodeFrame (bytesOf p payload))
-      ≡ upTo (payloadOffset (formOf (p .body))) (packetFrame (p .head) (p .body))
+      ≡ upTo (payloadOffset (formOf (p .body))) (packetFrame (frontOf (p .head)) (p .body))
   unfolding bytesOf
   upTo-back =
-      encodeFrame-back (packetFrame (p .head) (p .body)) (seated .sound) (seated .marks) (formOf (p .body)) payload
+      encodeFrame-back (packetFrame (frontOf (p .head)) (p .body)) (seated .sound) (seated .marks) (formOf (p .body)) payload
 
   -- bytes 0 and 7 select the form of the packet
   pub kind-of-written : choose (byte (bytesOf p payload) 0) (byte (bytesOf p payload) 7) ≡ Listed (formOf (p .body))
@@ -86,13 +86,13 @@ module _ (p : Packet) (payload : List ℕ) (room n : ℕ) (ty : Typed p) (e : wr
   written-reads =
       let b = bytesOf p payload in
       let m = formOf (p .body) in
-      let f = packetFrame (p .head) (p .body) in
+      let f = packetFrame (frontOf (p .head)) (p .body) in
       let low = fixed-low m in
       let high = longest (p .head .tc) (p .body) (passed .allows) in
       let len : length b ≡ payloadOffset m + payloadLength (p .body) = written-length ∙ sym (passed .long) ∙ ap (λ (k : ℕ). payloadOffset m + k) (passed .fills) in
       let h : 12 ≤ length b = omega arith in
       let k : length b ≤ 144 = omega arith in
-      let same : packetIn m f ≡ p = rw (seated .front, seated .back) in
+      let same : packetIn m f ≡ p = rw (seated .head, seated .back) in
       read-by-frame b h k
       ∙ read-by-form b m (length b) kind-of-written
       ∙ sym (read-upTo m (decodeFrame b) (length b))
@@ -105,7 +105,7 @@ module _ (p : Packet) (payload : List ℕ) (room n : ℕ) (ty : Typed p) (e : wr
   unfolding payloadIn bytesOf
   written-payload =
       let m = formOf (p .body) in
-      let f = packetFrame (p .head) (p .body) in
+      let f = packetFrame (frontOf (p .head)) (p .body) in
       let low = fixed-low m in
       let l = written-length in
       let h : 12 ≤ length (bytesOf p payload) = omega (arith, passed .long) in
@@ -145,7 +145,7 @@ pub record Taken (b : List ℕ) (p : Packet) : Type 0 where
   pub low : 12 ≤ length b
   pub chosen : choose (byte b 0) (byte b 7) ≡ Listed form
   pub long : length b ≡ packetLength form (decodeFrame b .dwords)
-  pub marks : decodeFrame b .marks ≡ 0
+  pub marks : decodeFrame b .front .marks ≡ 0
   pub shape : wellFormed form (decodeFrame b) ≡ true
   pub allows : allowed p ≡ true
   pub whole : packetIn form (decodeFrame b) ≡ p
@@ -158,7 +158,7 @@ module _ (b : List ℕ) (p : Packet) (low : 12 ≤ length b) where
   taken-as (Listed m) q e =
       let f = decodeFrame b in
       let p1 = check-passed (eqb (length b) (packetLength m (f .dwords))) 1 _ e in
-      let p2 = check-passed (eqb (f .marks) 0) 3 _ (p1 .1) in
+      let p2 = check-passed (eqb (f .front .marks) 0) 3 _ (p1 .1) in
       let p3 = check-passed (wellFormed m f) 4 _ (p2 .1) in
       let p4 = check-passed (allowed (packetIn m f)) 4 (ok (packetIn m f)) (p3 .1) in
       let same = ok-injective (p4 .1) in
@@ -167,7 +167,7 @@ module _ (b : List ℕ) (p : Packet) (low : 12 ≤ length b) where
         low = low;
         chosen = q;
         long = eqb-true (length b) (packetLength m (f .dwords)) (p1 .0);
-        marks = eqb-true (f .marks) 0 (p2 .0);
+        marks = eqb-true (f .front .marks) 0 (p2 .0);
         shape = p3 .0;
         allows = ap allowed (sym same) ∙ p4 .0;
         whole = same;
@@ -180,7 +180,7 @@ taken b p e =
     let p2 = refuse-passed (ltb 144 (length b)) 1 (readFrame (decodeFrame b) (length b)) (p1 .1) in
     taken-as b p (ltb-false (length b) 12 (p1 .0)) (choose (byte b 0) (byte b 7)) refl (p2 .1)
 
-marks-is : (b : List ℕ) → decodeFrame b .marks ≡ 0 → byte b 2 / 64 ≡ 0
+marks-is : (b : List ℕ) → decodeFrame b .front .marks ≡ 0 → byte b 2 / 64 ≡ 0
 unfolding decodeFrame
 marks-is b z = z
 
@@ -213,7 +213,7 @@ module _ (b : List ℕ) (p : Packet) (h : Bytes b) (e : reading b ≡ ok p) wher
       let sum = sum-is in
       let len = masked-length (maskOf m u) b in
       let fits : n ≤ length c = omega arith in
-      let front : take n (encodeFrame (packetFrame (headIn f) (bodyIn m f))) ≡ take n c =
+      let front : take n (encodeFrame (packetFrame (frontOf (headIn (f .front))) (bodyIn m f))) ≡ take n c =
       ap (λ (x : Frame). take n (encodeFrame x)) (refitted .frame ∙ sym (tidy-frame b h m u))
       ∙ encodeFrame-upTo c (under-bytes b h m u) (under-1 b h m u) (under-2 b h m u (marks-is b (told .marks))) m fits in
       let rest : payloadIn b ≡ drop n c = payload-is ∙ sym (rw (mask m u .long) at (masked-drop (maskOf m u) b)) in
@@ -230,7 +230,7 @@ module _ (b : List ℕ) (p : Packet) (h : Bytes b) (e : reading b ≡ ok p) wher
       let d = length-drop (payloadOffset m) b in
       let load : length (payloadIn b) ≡ payloadLength (bodyIn m f) = rw (payload-is, d) (omega arith) in
       let wide : payloadOffset m + length (payloadIn b) ≡ length b = rw load sum in
-      let tc = lt-ltb (f .tc) 8 (frame-sound b h .tc) in
+      let tc = lt-ltb (f .front .tc) 8 (frame-sound b h .front .tc) in
       let a : allowed (packetIn m f) ≡ true = ap allowed (told .whole) ∙ told .allows in
       let all : writing (packetIn m f) (length (payloadIn b)) room ≡ ok (length b) =
       rw (tc, refitted .within, eq-eqb (length (payloadIn b)) (payloadLength (bodyIn m f)) load, a, refitted .form, wide, le-ltb room (length b) k) in

@@ -43,11 +43,9 @@ abbrev pub keeping : Frame → ℕ → ℕ → ℕ → ℕ → ℕ → ℕ → F
 keeping f at dwords byte6 dword8 dword12 body =
     record {
       byte0 = f .byte0;
-      tc = f .tc;
-      marks = f .marks;
+      front = f .front;
       at = at;
       dwords = dwords;
-      sender = f .sender;
       byte6 = byte6;
       byte7 = f .byte7;
       dword8 = dword8;
@@ -108,11 +106,11 @@ module _ (f : Frame) (s : Sound f) where
   all0 : bitAnd (f .byte0) 0xFF ≡ f .byte0
   all0 = whole 8 (f .byte0) (s .byte0)
 
-  all-tc : bitAnd (f .tc) 7 ≡ f .tc
-  all-tc = whole 3 (f .tc) (s .tc)
+  all-tc : bitAnd (f .front .tc) 7 ≡ f .front .tc
+  all-tc = whole 3 (f .front .tc) (s .front .tc)
 
-  all-marks : bitAnd (f .marks) 3 ≡ f .marks
-  all-marks = whole 2 (f .marks) (s .marks)
+  all-marks : bitAnd (f .front .marks) 3 ≡ f .front .marks
+  all-marks = whole 2 (f .front .marks) (s .front .marks)
 
   all-at : bitAnd (f .at) 3 ≡ f .at
   all-at = whole 2 (f .at) (s .at)
@@ -120,8 +118,8 @@ module _ (f : Frame) (s : Sound f) where
   all-words : bitAnd (f .dwords) 0x3FF ≡ f .dwords
   all-words = whole 10 (f .dwords) (s .dwords)
 
-  all-sender : bitAnd (f .sender) 0xFFFF ≡ f .sender
-  all-sender = whole 16 (f .sender) (s .sender)
+  all-sender : bitAnd (f .front .sender) 0xFFFF ≡ f .front .sender
+  all-sender = whole 16 (f .front .sender) (s .front .sender)
 
   all6 : bitAnd (f .byte6) 0xFF ≡ f .byte6
   all6 = whole 8 (f .byte6) (s .byte6)

@@ -4,6 +4,7 @@ use packet::Body;
 use packet::Completion;
 use packet::Form;
 use packet::Frame;
+use packet::Front;
 use packet::Head;
 use packet::InvalidateCompletion;
 use packet::InvalidateRequest;
@@ -19,7 +20,7 @@ ghost use Prim.Native.Nat.{_≤_};
 ghost use Rattle.packet.specs.declared.Body.the-variants.{Tr, Mem, Cpl, Inv, Ic, Prq, Prs};
 ghost use Rattle.packet.specs.declared.Form.the-variants.{Mrd32, Mrd64, Mwr32, Mwr64};
 ghost use Rattle.packet.specs.Forms.{byte0Of};
-ghost use Rattle.packet.specs.Kinds.{needs64Bits, accessForm, outcomeForm, formOf, bitOf, addressDword8, addressDword12, accessTag, outcomeDwords, outcomeStatus, packetFrame};
+ghost use Rattle.packet.specs.Kinds.{needs64Bits, accessForm, outcomeForm, formOf, bitOf, addressDword8, addressDword12, accessTag, outcomeDwords, outcomeStatus, frontOf, packetFrame};
 
 fn bit(b: bool) -> u8
     ensures { λ r. ⌜ (r ≡ bitOf b) × (r ≤ 1) ⌝ }
@@ -123,17 +124,15 @@ fn address_dword12(a: u64) -> u32
     }
 }
 
-fn tr(h: Head, t: TranslationRequest) -> Frame
-    ensures { λ r. ⌜ r ≡ packetFrame h (Tr t) ⌝ }
+fn tr(front: Front, t: TranslationRequest) -> Frame
+    ensures { λ r. ⌜ r ≡ packetFrame front (Tr t) ⌝ }
 {
     let a = t.address / 4096 * 4096 + bit(t.nowrite) as u64;
     Frame {
         byte0: byte0(read_form(t.address)),
-        tc: h.tc,
-        marks: 0,
+        front,
         at: 1,
         dwords: t.dwords,
-        sender: h.sender,
         byte6: t.tag.0,
         byte7: 0xFF,
         dword8: address_dword8(a),
@@ -151,17 +150,15 @@ fn access_tag(a: Access) -> u8
     }
 }
 
-fn mem(h: Head, m: MemoryRequest) -> Frame
-    ensures { λ r. ⌜ r ≡ packetFrame h (Mem m) ⌝ }
+fn mem(front: Front, m: MemoryRequest) -> Frame
+    ensures { λ r. ⌜ r ≡ packetFrame front (Mem m) ⌝ }
 {
     let access = m.access;
     Frame {
         byte0: byte0(access_form(access, m.address)),
-        tc: h.tc,
-        marks: 0,
+        front,
         at: bit(m.translated) * 2,
         dwords: m.dwords,
-        sender: h.sender,
         byte6: access_tag(access),
         byte7: byte_enables(m.dwords),
         dword8: address_dword8(m.address),
@@ -188,17 +185,15 @@ fn outcome_status(o: Outcome) -> u8
     }
 }
 
-fn cpl(h: Head, c: Completion) -> Frame
-    ensures { λ r. ⌜ r ≡ packetFrame h (Cpl c) ⌝ }
+fn cpl(front: Front, c: Completion) -> Frame
+    ensures { λ r. ⌜ r ≡ packetFrame front (Cpl c) ⌝ }
 {
     let outcome = c.outcome;
     Frame {
         byte0: byte0(outcome_form(outcome)),
-        tc: h.tc,
-        marks: 0,
+        front,
         at: 0,
         dwords: outcome_dwords(outcome),
-        sender: h.sender,
         byte6: outcome_status(outcome) % 8 * 32 + (c.count / 256 % 16) as u8,
         byte7: (c.count % 256) as u8,
         dword8: c.requester as u32 * 65536 + c.tag.0 as u32 * 256 + c.lower as u32,
@@ -207,16 +202,14 @@ fn cpl(h: Head, c: Completion) -> Frame
     }
 }
 
-fn inv(h: Head, i: InvalidateRequest) -> Frame
-    ensures { λ r. ⌜ r ≡ packetFrame h (Inv i) ⌝ }
+fn inv(front: Front, i: InvalidateRequest) -> Frame
+    ensures { λ r. ⌜ r ≡ packetFrame front (Inv i) ⌝ }
 {
     Frame {
         byte0: 0x72,
-        tc: h.tc,
-        marks: 0,
+        front,
         at: 0,
         dwords: 2,
-        sender: h.sender,
         byte6: i.itag.0,
         byte7: 0x01,
         dword8: i.device as u32 * 65536,
@@ -225,16 +218,14 @@ fn inv(h: Head, i: InvalidateRequest) -> Frame
     }
 }
 
-fn ic(h: Head, i: InvalidateCompletion) -> Frame
-    ensures { λ r. ⌜ r ≡ packetFrame h (Ic i) ⌝ }
+fn ic(front: Front, i: InvalidateCompletion) -> Frame
+    ensures { λ r. ⌜ r ≡ packetFrame front (Ic i) ⌝ }
 {
     Frame {
         byte0: 0x32,
-        tc: h.tc,
-        marks: 0,
+        front,
         at: 0,
         dwords: 0,
-        sender: h.sender,
         byte6: 0,
         byte7: 0x02,
         dword8: i.device as u32 * 65536 + i.cc as u32,
@@ -243,8 +234,8 @@ fn ic(h: Head, i: InvalidateCompletion) -> Frame
     }
 }
 
-fn prq(h: Head, q: PageRequest) -> Frame
-    ensures { λ r. ⌜ r ≡ packetFrame h (Prq q) ⌝ }
+fn prq(front: Front, q: PageRequest) -> Frame
+    ensures { λ r. ⌜ r ≡ packetFrame front (Prq q) ⌝ }
 {
     let a = q.page / 4096 * 4096
         + q.index.0 as u64 % 512 * 8
@@ -253,11 +244,9 @@ fn prq(h: Head, q: PageRequest) -> Frame
         + bit(q.read) as u64;
     Frame {
         byte0: 0x30,
-        tc: h.tc,
-        marks: 0,
+        front,
         at: 0,
         dwords: 0,
-        sender: h.sender,
         byte6: 0,
         byte7: 0x04,
         dword8: (a / 4294967296) as u32,
@@ -266,16 +255,14 @@ fn prq(h: Head, q: PageRequest) -> Frame
     }
 }
 
-fn prs(h: Head, s: PrgResponse) -> Frame
-    ensures { λ r. ⌜ r ≡ packetFrame h (Prs s) ⌝ }
+fn prs(front: Front, s: PrgResponse) -> Frame
+    ensures { λ r. ⌜ r ≡ packetFrame front (Prs s) ⌝ }
 {
     Frame {
         byte0: 0x32,
-        tc: h.tc,
-        marks: 0,
+        front,
         at: 0,
         dwords: 0,
-        sender: h.sender,
         byte6: 0,
         byte7: 0x05,
         dword8: s.device as u32 * 65536 + s.code as u32 % 16 * 4096 + s.index.0 as u32 % 512,
@@ -284,17 +271,29 @@ fn prs(h: Head, s: PrgResponse) -> Frame
     }
 }
 
+// The front of a packet with this head.
+fn front(h: Head) -> Front
+    ensures { λ r. ⌜ r ≡ frontOf h ⌝ }
+{
+    Front {
+        tc: h.tc,
+        marks: 0,
+        sender: h.sender,
+    }
+}
+
 // The frame of a packet.
 pub(crate) fn packet_frame(h: Head, body: Body) -> Frame
-    ensures { λ r. ⌜ r ≡ packetFrame h body ⌝ }
+    ensures { λ r. ⌜ r ≡ packetFrame (frontOf h) body ⌝ }
 {
+    let front = front(h);
     match body {
-        Body::Tr(t) => tr(h, t),
-        Body::Mem(m) => mem(h, m),
-        Body::Cpl(c) => cpl(h, c),
-        Body::Inv(i) => inv(h, i),
-        Body::Ic(i) => ic(h, i),
-        Body::Prq(q) => prq(h, q),
-        Body::Prs(s) => prs(h, s),
+        Body::Tr(t) => tr(front, t),
+        Body::Mem(m) => mem(front, m),
+        Body::Cpl(c) => cpl(front, c),
+        Body::Inv(i) => inv(front, i),
+        Body::Ic(i) => ic(front, i),
+        Body::Prq(q) => prq(front, q),
+        Body::Prs(s) => prs(front, s),
     }
 }

@@ -24,13 +24,14 @@ ghost use Rattle.packet.specs.Writing.{writeResult, bytesOf, checkRoom, writing
 fn encode_frame(f: Frame) -> [u8; 24]
     ensures { λ r. ⌜ r ≡ encodeFrame f ⌝ }
 {
+    let front = f.front;
     [
         f.byte0,
-        f.tc % 8 * 16,
+        front.tc % 8 * 16,
         f.at % 4 * 4 + (f.dwords / 256 % 4) as u8,
         (f.dwords % 256) as u8,
-        (f.sender / 256 % 256) as u8,
-        (f.sender % 256) as u8,
+        (front.sender / 256 % 256) as u8,
+        (front.sender % 256) as u8,
         f.byte6,
         f.byte7,
         (f.dword8 / 16777216 % 256) as u8,

@@ -6,26 +6,20 @@ use Rattle.reader.proofs.decode_frame.Tie as tie
 shared-slice-read-t3 : tie.Need-shared-slice-read-t3
 shared-slice-read-t3 c = search needs
 
-shared-slice-read-t5 : tie.Need-shared-slice-read-t5
-shared-slice-read-t5 c = search needs
+decode-front-requires : tie.Need-decode-front-requires
+decode-front-requires c κs = search needs
 
-shared-slice-read-t9 : tie.Need-shared-slice-read-t9
-shared-slice-read-t9 c = search needs
-
-shared-slice-read-t12 : tie.Need-shared-slice-read-t12
-shared-slice-read-t12 c = search needs
+shared-slice-read-t6 : tie.Need-shared-slice-read-t6
+shared-slice-read-t6 c = search needs
 
 dwords-requires : tie.Need-dwords-requires
 dwords-requires c κs = search needs
 
-num16-requires : tie.Need-num16-requires
-num16-requires c κs = search needs
+shared-slice-read-t11 : tie.Need-shared-slice-read-t11
+shared-slice-read-t11 c = search needs
 
-shared-slice-read-t18 : tie.Need-shared-slice-read-t18
-shared-slice-read-t18 c = search needs
-
-shared-slice-read-t20 : tie.Need-shared-slice-read-t20
-shared-slice-read-t20 c = search needs
+shared-slice-read-t13 : tie.Need-shared-slice-read-t13
+shared-slice-read-t13 c = search needs
 
 num32-requires : tie.Need-num32-requires
 num32-requires c κs = search needs
@@ -38,20 +32,18 @@ body-requires c κs = search needs
 
 returns : tie.Need-returns
 unfolding decodeFrame
-returns c = simp (c .body .ensures, c .before .dword12 .ensures, c .before .before .num32 .ensures, c .before .before .before .before .before .num16 .ensures, c .before .before .before .before .before .before .dwords .ensures)
+returns c = simp (c .body .ensures, c .before .dword12 .ensures, c .before .before .num32 .ensures, c .before .before .before .before .before .dwords .ensures, c .before .before .before .before .before .before .before .decode-front .ensures)
 
 pub decode-frame-spec : {M : Type 1} → statement M
 decode-frame-spec =
     tie.close
     (tie.spec
     shared-slice-read-t3
-    shared-slice-read-t5
-    shared-slice-read-t9
-    shared-slice-read-t12
+    decode-front-requires
+    shared-slice-read-t6
     dwords-requires
-    num16-requires
-    shared-slice-read-t18
-    shared-slice-read-t20
+    shared-slice-read-t11
+    shared-slice-read-t13
     num32-requires
     dword12-requires
     body-requires

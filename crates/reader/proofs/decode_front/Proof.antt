@@ -1,0 +1,19 @@
+use borrow.Author.Needs.{needs}
+use Rattle.reader.proofs.decode_front.Statement.{statement}
+use Rattle.reader.proofs.decode_front.Tie as tie
+
+shared-slice-read-t3 : tie.Need-shared-slice-read-t3
+shared-slice-read-t3 c = search needs
+
+shared-slice-read-t7 : tie.Need-shared-slice-read-t7
+shared-slice-read-t7 c = search needs
+
+num16-requires : tie.Need-num16-requires
+num16-requires c κs = search needs
+
+returns : tie.Need-returns
+returns c = rw (c .num16 .ensures)
+
+pub decode-front-spec : {M : Type 1} → statement M
+decode-front-spec =
+    tie.close (tie.spec shared-slice-read-t3 shared-slice-read-t7 num16-requires returns)

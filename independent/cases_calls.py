@@ -9,6 +9,7 @@ act is drawn.
 
 import masks
 import packets
+import scripts_attr
 import scripts_calls
 import scripts_order
 import scripts_tables
@@ -19,7 +20,7 @@ from function import END, OFF, PAGE, STOPPED, TAGS, OpenRead, OpenTr
 from samples import FORMS, flip, noisy, poke, resized, with_length
 
 FIXED = (scripts_calls.SCRIPTS + scripts_tables.SCRIPTS
-         + scripts_order.SCRIPTS)
+         + scripts_order.SCRIPTS + scripts_attr.SCRIPTS)
 DRAWN = 4200                    # calls drawn at random, at least
 SHOW_EVERY = 40
 STUS = (0, 0, 0, 0, 1, 1, 2, 3, 9, 19, 20, 30, 31)
@@ -99,13 +100,16 @@ class Player:
         return self.call(name, room, *values, rest=rest)
 
     def receive(self, fields, payload=b""):
-        """A packet of these fields, often with noise in its ignored bits."""
+        """A packet of these fields, often with noise in Attr and ignored bits.
+
+        The Function must heed neither.
+        """
         packet = packets.write(fields, payload, packets.LONGEST)
         form = {packets.Cpl: "CPL", packets.CplData: "CPLD",
                 packets.Inv: "INV", packets.Prs: "PRS"}[type(fields)]
         if self.rng.bits(1):
-            packet = masks.with_ignored(form, packet,
-                                        self.rng.data(len(packet)))
+            packet = masks.with_noise(form, packet,
+                                      self.rng.data(len(packet)))
         return self.call("receive", rest=packet)
 
     def fixed(self):

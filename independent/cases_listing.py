@@ -6,7 +6,8 @@ at the end of the file with no line feed behind it.
 """
 
 from cases_reading import forbidden, mutated, poisoned
-from samples import FORMS, KIND, clean, noisy, resized
+from masks import with_attr
+from samples import FORMS, KIND, clean, noisy, poke, resized
 
 
 def cased(rng, packet):
@@ -38,6 +39,20 @@ def of_packets(rng):
             yield form, noisy(rng, form, length), "ok"
     for _ in range(300):
         yield mutated(rng) + (None,)
+
+
+def of_attrs(rng):
+    """Packets that differ in Attr alone, which no line of output shows."""
+    for form in FORMS:
+        wrong = forbidden(rng, form)[:1]
+        for code in range(8):
+            for packet in wrong:
+                yield form, with_attr(packet, code), 4
+        packet, other = clean(rng, form), noisy(rng, form)
+        for code in range(8):
+            yield form, with_attr(packet, code), "ok"
+            yield form, with_attr(other, code), "ok"
+            yield form, with_attr(poke(packet, 2, 0xC0, 0x40), code), 3
 
 
 def of_text(rng):
@@ -85,6 +100,8 @@ def cases(rng):
     out = [(KIND[form], cased(rng, packet).encode("ascii"), want)
            for form, packet, want in of_packets(rng)]
     out += [(KIND[form], line, want) for form, line, want in of_text(rng)]
+    out += [(KIND[form], cased(rng, packet).encode("ascii"), want)
+            for form, packet, want in of_attrs(rng)]
     for i in range(len(out) - 1, 0, -1):
         j = rng.below(i + 1)
         out[i], out[j] = out[j], out[i]

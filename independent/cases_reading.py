@@ -7,16 +7,17 @@ chance decides. The generator fails if the reader says otherwise.
 
 from samples import (FORMS, KIND, MESSAGES, WITH_PAYLOAD, clean, flip, lengths,
                      noisy, poke, resized, with_length)
-from masks import NAMED
+from masks import ATTR, NAMED, with_attr
 
 MEMORY = ("TR32", "TR64", "RD32", "RD64", "WR32", "WR64")
 TR_LENGTHS_BAD = (0, 1, 3, 31, 33, 34, 64, 256, 258, 512, 514, 1022, 1023)
 READ_LENGTHS_BAD = (0, 33, 34, 64, 256, 257, 512, 513, 1023)
+UNNAMED = (0x80, 0x08, 0x02, 0x01)      # of byte 1, in every kind
 ENABLES = (0x00, 0x01, 0x0E, 0x0F, 0x1F, 0x7F, 0x8F, 0xF0, 0xFE, 0xFF)
 
 
 def valid(rng):
-    """Every form with random ignored bits and every allowed Length."""
+    """Every form with random Attr, ignored bits and every allowed Length."""
     for form in FORMS:
         yield form, clean(rng, form), "ok"
         for length in lengths(form) or (None,) * 24:
@@ -28,15 +29,46 @@ def valid(rng):
 def flips(rng):
     """Single bits turned: all of bytes 0 to 3, and every unnamed one.
 
-    An unnamed bit must change nothing.
+    An unnamed bit must change nothing, and one of Attr nothing else.
     """
     for form in FORMS:
         packet = clean(rng, form, (lengths(form) or (None,))[0])
         mask = NAMED[form]
         for bit in range(8 * len(mask)):
             unnamed = not mask[bit // 8] & 0x80 >> bit % 8
+            attr = bit < 24 and ATTR[bit // 8] & 0x80 >> bit % 8
             if unnamed or bit < 32:
-                yield form, flip(packet, bit), "ok" if unnamed else None
+                yield form, flip(packet, bit), (
+                    "ok" if unnamed or attr else None)
+
+
+def attrs(rng):
+    """Each Attr in every form, and the unnamed bits that stand beside it."""
+    for form in FORMS:
+        packet = clean(rng, form, (lengths(form) or (None,))[0])
+        beside = sum(UNNAMED)
+        for code in range(8):
+            yield form, with_attr(packet, code), "ok"
+            yield form, with_attr(poke(packet, 1, beside, beside), code), "ok"
+        for bit in UNNAMED:
+            for code in (0, 4, 7):
+                yield form, with_attr(poke(packet, 1, bit, bit), code), "ok"
+
+
+def attrs_refused(rng):
+    """Packets that are refused the same whatever their Attr is."""
+    for form in FORMS:
+        for code in range(1, 8):
+            packet = with_attr(clean(rng, form), code)
+            yield form, packet[:11], 1
+            yield form, packet + rng.data(4), 1
+            yield form, poke(packet, 0, 0xFF, 0x01), 2
+            if form in MESSAGES:
+                yield form, poke(packet, 7, 0xFF, 0x03), 2
+            for bits in (0x80, 0x40, 0xC0):
+                yield form, poke(packet, 2, 0xC0, bits), 3
+        for at, packet in enumerate(forbidden(rng, form)):
+            yield form, with_attr(packet, at % 7 + 1), 4
 
 
 def forbidden(rng, form):
@@ -274,7 +306,8 @@ def malformed(rng):
 def cases(rng):
     """All of them: (kind, line, number wanted)."""
     for part in (valid, flips, forbidden_alone, allowed_beside, first_bytes,
-                 poisoned, whole_lengths, pairs, chance):
+                 poisoned, whole_lengths, pairs, chance, attrs,
+                 attrs_refused):
         for form, packet, want in part(rng):
             yield KIND[form], packet.hex().upper().encode("ascii"), want
     for form, text, want in malformed(rng):

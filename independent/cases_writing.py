@@ -9,7 +9,8 @@ from dataclasses import replace
 
 import packets
 import records
-from samples import FORMS, WITH_PAYLOAD, fields, lengths, payload
+from samples import (FORMS, WITH_PAYLOAD, fields, lengths, ordered,
+                     payload)
 
 MOST_RECORD = 4200              # bytes
 MOST_ROOM = 512
@@ -33,7 +34,7 @@ def head_of(form):
 
 def good(rng, form, length=None):
     """(fields, payload, length of the packet) that can be written."""
-    record = fields(rng, form, length)
+    record = ordered(rng, fields(rng, form, length))
     data = payload(rng, record)
     return record, data, head_of(form) + len(data)
 
@@ -172,7 +173,7 @@ def edges(rng):
         for high in (False, True):
             record, data, due = good(rng, form)
             for name in vars(record):
-                if name in ("length", "address", "status"):
+                if name in ("length", "address", "status", "attr"):
                     continue
                 if name == "tc" and form in ("PRQ", "PRS"):
                     continue
@@ -186,6 +187,20 @@ def edges(rng):
         record, data, due = good(rng, "CPL")
         yield (replace(record, status=status), data, due,
                4 if status == 2 else "ok")
+
+
+def attrs(rng):
+    """Each Attr in every form, written and refused."""
+    for form in FORMS:
+        record, data, due = good(rng, form)
+        for attr in packets.ATTRS:
+            record = replace(record, attr=attr)
+            yield record, data, due, "ok"
+            yield record, data, due - 1, 17
+            yield record, data + b"\0", due, 12
+        for at, (record, data, due) in enumerate(forbidden(rng, form)):
+            attr = packets.ATTRS[at % 7 + 1]
+            yield replace(record, attr=attr), data, due, 4
 
 
 def longest(rng):
@@ -223,7 +238,7 @@ def chance(rng):
 
 def cases(rng):
     """All of them: (kind, line, number wanted)."""
-    for part in (valid, refusals, edges, chance, longest):
+    for part in (valid, refusals, edges, chance, longest, attrs):
         for record, data, room, want in part(rng):
             packed = records.pack(record, room, data)
             if len(packed) > MOST_RECORD or room > MOST_ROOM:

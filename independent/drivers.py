@@ -2,13 +2,13 @@
 
     python3 drivers.py packets|calls < stdin > stdout
 
-packets: by the line's first letter, R: a packet in hex -> its field record and
-the packet written again; W: a field record -> the packet and what the lent
-buffer holds after it; S: an 8-byte word -> base, log2 of the size, N U W R. A
-refusal is BAD and its number, and for W the whole lent buffer. calls: a call
-of the Function -> what it answers, sends and becomes (calls.py tells the
-form); the lines are given one after another to the same Function, new at the
-first.
+packets: by the line's first letter, R: a packet in hex -> its field record
+(records.py tells the form) and the packet written again; W: a field record ->
+the packet and what the lent buffer holds after it; S: an 8-byte word -> base,
+log2 of the size, N U W R. A refusal is BAD and its number, and for W the whole
+lent buffer. calls: a call of the Function -> what it answers, sends and
+becomes (calls.py tells the form); the lines are given one after another to the
+same Function, new at the first.
 """
 
 import sys

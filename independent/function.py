@@ -5,6 +5,10 @@ seventeen numbers", those of the calls with their order (document 01). It
 stands on packets.py, which gives the numbers of reading and lays out what is
 sent.
 
+Attr, which every packet has since request a), is no part of the state, and no
+call looks at it. No packet that is sent has any of its bits set: they are zero
+where a record is made without them.
+
 A call gives an Outcome, or its refusal as a plain int. A refused call changes
 nothing. What the tables hold are frozen records: a table changes only where
 a place in it is given another record.

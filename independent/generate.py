@@ -5,8 +5,10 @@ calls, and hand, which is one long run of calls for a new Function; each a
 .stdin and a .stdout, the same bytes each time. Every case made
 to show a certain number is checked to show it; size-codes.tsv is checked row
 by row; the fixed scripts of calls are checked step by step. Prints how often
-each number and kind came up and, for the calls, each number and answer; exits
-with 1 if one that can occur never did, or one that cannot did.
+each number and kind came up and, for the calls, each number and answer, and
+how often each Attr; exits with 1 if one that can occur never did, or one that
+cannot did. Nothing that the Function sends may have an Attr bit, and no line
+of the listing may depend on one.
 """
 
 import io
@@ -23,7 +25,9 @@ import cases_sizes
 import cases_writing
 import drivers
 import listing
+import packets
 import reached
+import reached_attr
 import reached_order
 import reached_roles
 import records
@@ -36,8 +40,8 @@ NUMBERS = {"listing": ("ok", "0", "1", "2", "3", "4"),
            "reading": ("ok", "0", "1", "2", "3", "4"),
            "writing": ("ok", "12", "4", "17")}
 # In and out, in thousand bytes.
-LARGEST = {"listing": (400, 400), "packets": (700, 1200),
-           "calls": (600, 900), "hand": (300, 300)}
+LARGEST = {"listing": (400, 400), "packets": (750, 1200),
+           "calls": (650, 900), "hand": (300, 300)}
 
 
 def check(want, got, line):
@@ -52,7 +56,7 @@ def outcome(answer):
     return parts[parts.index("BAD") + 1] if "BAD" in parts else "ok"
 
 
-def make(name, cases, answer, counts):
+def make(name, cases, answer, counts, attrs=None):
     """(stdin, stdout) of a test with one answer for each line."""
     asked, answered, seen = [], [], set()
     for kind, line, want in cases:
@@ -64,6 +68,8 @@ def make(name, cases, answer, counts):
         check(want, got, line)
         if got == "ok" and name == "reading":
             kind = records.NAMES[int(text[:2], 16)]
+        if got == "ok" and attrs:
+            attrs.add(name, line, text)
         counts[name, kind, got] = counts.get((name, kind, got), 0) + 1
         asked.append(line + b"\n")
         answered.append(text.encode("ascii") + b"\n")
@@ -85,13 +91,24 @@ def make_sizes(rng):
     return b"".join(asked), b"".join(answered)
 
 
-def make_packets(counts):
+def check_listing(asked, answered):
+    """Every kind and BAD must be listed with each Attr, and all the same."""
+    lines = [listing.unhex(line) for line in asked.split(b"\n")]
+    whole = [None if isinstance(line, int) or len(line) < packets.SHORTEST
+             else line for line in lines]
+    rows = answered.decode("ascii").split("\n")[:-1]
+    seen = reached_attr.unshown(whole, rows)
+    if seen != {"BAD", *listing.NAMES.values()}:
+        raise AssertionError("listed with each Attr: only %s" % sorted(seen))
+
+
+def make_packets(counts, attrs):
     """(stdin, stdout) of the packet layer; a letter begins each line."""
     parts = {
         b"R": make("reading", cases_reading.cases(Rng(2)),
-                   lambda _, line: drivers.reading(line), counts),
+                   lambda _, line: drivers.reading(line), counts, attrs),
         b"W": make("writing", cases_writing.cases(Rng(3)),
-                   lambda _, line: drivers.writing(line), counts),
+                   lambda _, line: drivers.writing(line), counts, attrs),
         b"S": make_sizes(Rng(4))}
     asked = [letter + line for letter, (lines, _) in parts.items()
              for line in lines.split(b"\n")[:-1]]
@@ -113,9 +130,12 @@ def make_calls(cases, tally=None):
         asked.append(line + b"\n")
         answered.append(text.encode("ascii") + b"\n")
         data = bytes.fromhex(line.decode("ascii"))
-        if not tally or calls.parse(data)[0] == "show":
+        if calls.parse(data)[0] == "show":
             continue
-        answer = text.split("\t")[0]
+        answer, _, sent, *_ = text.split("\t")
+        reached_attr.sent_clear(bytes.fromhex(sent))
+        if not tally:
+            continue
         if answer[0] == "R" and vars(before) != vars(script.function):
             raise AssertionError("refused, but changed: %r" % line)
         tally.add(before, script.function, data, answer)
@@ -145,12 +165,15 @@ def show(counts, totals):
 def main(directory):
     """Write all files; the exit status."""
     counts, files = {}, {}
-    tally = reached.Tally(reached_roles.Roles(), reached_order.Order())
+    attrs = reached_attr.Layer()
+    tally = reached.Tally(reached_roles.Roles(), reached_order.Order(),
+                          reached_attr.Received())
     files["listing"] = make("listing", cases_listing.cases(Rng(1)),
                             listing.row, counts)
     # The last line of the listing's input has no line feed.
     files["listing"] = files["listing"][0][:-1], files["listing"][1]
-    files["packets"] = make_packets(counts)
+    check_listing(*files["listing"])
+    files["packets"] = make_packets(counts, attrs)
     files["calls"] = make_calls(cases_calls.cases(Rng(SEED)), tally)
     files["hand"] = make_calls(cases_calls.long_run())
 
@@ -175,10 +198,11 @@ def main(directory):
                 out.write(data)
         totals[name] = answered.count(b"\n"), len(asked), len(answered)
     missing = show(counts, totals)
+    print(attrs.line())
     for line in tally.table():
         print(line)
     faults = ["never seen: %s, %s, %s" % cell for cell in missing]
-    faults += tally.faults()
+    faults += [*attrs.faults(), *tally.faults()]
     for line in faults:
         print(line)
     return 1 if faults else 0

@@ -7,9 +7,12 @@ writing, the numbers 1, 2, 3, 4, 12, 17 with their order.
 A packet is known by a record of its fields (one class for each kind; MEM and
 CPL have two each, without and with payload). Flags are the integers 0 and 1.
 A refusal is returned as its number, a plain int. No record is ever an int.
+
+Since request a) the three Attr bits are fields of every kind. No value of
+them is forbidden.
 """
 
-from dataclasses import dataclass
+from dataclasses import dataclass, field, replace
 
 SHORTEST, LONGEST = 12, 144     # bytes of any packet
 MOST_DWORDS = 32                # of a TR, a MEM or a data completion
@@ -29,7 +32,30 @@ CODES = {0x72: (0x01,), 0x32: (0x02, 0x05), 0x30: (0x04,)}
 # --- records of fields ----------------------------------------------------
 
 @dataclass(frozen=True)
-class Tr:
+class Attr:
+    """The Attr bits: byte 1 bit 2, byte 2 bit 5, byte 2 bit 4."""
+    id_based: int = 0   # ID-based ordering
+    relaxed: int = 0    # Relaxed Ordering
+    no_snoop: int = 0
+
+    def code(self):
+        """The three as a number, its highest bit the first of them."""
+        return self.id_based << 2 | self.relaxed << 1 | self.no_snoop
+
+
+# Each stands at the place of its code.
+ATTRS = tuple(Attr(code >> 2, code >> 1 & 1, code & 1) for code in range(8))
+NO_ATTR = ATTRS[0]
+
+
+@dataclass(frozen=True)
+class Fields:
+    """What all kinds have beside their own; TC and sender stand in each."""
+    attr: Attr = field(default=NO_ATTR, kw_only=True)
+
+
+@dataclass(frozen=True)
+class Tr(Fields):
     """Translation Request."""
     tc: int
     sender: int
@@ -40,7 +66,7 @@ class Tr:
 
 
 @dataclass(frozen=True)
-class MemRead:
+class MemRead(Fields):
     """Memory read; translated is 1 for AT 10, 0 for AT 00."""
     tc: int
     sender: int
@@ -51,7 +77,7 @@ class MemRead:
 
 
 @dataclass(frozen=True)
-class MemWrite:
+class MemWrite(Fields):
     """Memory write; it has no Tag."""
     tc: int
     sender: int
@@ -61,7 +87,7 @@ class MemWrite:
 
 
 @dataclass(frozen=True)
-class Cpl:
+class Cpl(Fields):
     """Completion without data."""
     tc: int
     sender: int
@@ -73,7 +99,7 @@ class Cpl:
 
 
 @dataclass(frozen=True)
-class CplData:
+class CplData(Fields):
     """Completion with data; its status can only be 000."""
     tc: int
     sender: int
@@ -85,7 +111,7 @@ class CplData:
 
 
 @dataclass(frozen=True)
-class Inv:
+class Inv(Fields):
     """Invalidate Request; address and s are its body."""
     tc: int
     sender: int
@@ -96,7 +122,7 @@ class Inv:
 
 
 @dataclass(frozen=True)
-class Ic:
+class Ic(Fields):
     """Invalidate Completion."""
     tc: int
     sender: int
@@ -106,7 +132,7 @@ class Ic:
 
 
 @dataclass(frozen=True)
-class Prq:
+class Prq(Fields):
     """Page Request."""
     tc: int
     sender: int
@@ -118,7 +144,7 @@ class Prq:
 
 
 @dataclass(frozen=True)
-class Prs:
+class Prs(Fields):
     """PRG Response."""
     tc: int
     sender: int
@@ -175,10 +201,19 @@ def read(packet):
     tc = packet[1] >> 4 & 7
     sender = _number(packet, 4, 5)
     if byte0 in CODES:
-        return _read_message(packet, tc, sender, length)
-    if byte0 in (0x0A, 0x4A):
-        return _read_completion(packet, tc, sender, length)
-    return _read_memory(packet, tc, sender, length)
+        fields = _read_message(packet, tc, sender, length)
+    elif byte0 in (0x0A, 0x4A):
+        fields = _read_completion(packet, tc, sender, length)
+    else:
+        fields = _read_memory(packet, tc, sender, length)
+    if isinstance(fields, int):
+        return fields
+    return replace(fields, attr=_read_attr(packet))
+
+
+def _read_attr(packet):
+    """The Attr bits, which stand at the same places in all kinds."""
+    return Attr(packet[1] >> 2 & 1, packet[2] >> 5 & 1, packet[2] >> 4 & 1)
 
 
 def _read_memory(packet, tc, sender, length):
@@ -263,7 +298,8 @@ def payload_of(fields, packet):
 
 # --- writing --------------------------------------------------------------
 
-# How many values each field has in its bits.
+# How many values each field has in its bits. Attr is not among them: it is
+# made of bits, and has a place for each.
 VALUES = {
     "tc": 1 << 3, "sender": 1 << 16, "tag": 1 << 8, "length": 1 << 10,
     "address": 1 << 64, "no_write": 2, "translated": 2,
@@ -303,8 +339,8 @@ def write_into(fields, payload, buffer):
 
 def _misplaced(fields):
     """Has a value, or an address's low part, no place in the packet?"""
-    for name, value in vars(fields).items():
-        if not 0 <= value < VALUES[name]:
+    for name, values in VALUES.items():
+        if not 0 <= getattr(fields, name, 0) < values:
             return True
     return type(fields) in STEP and fields.address % STEP[type(fields)] != 0
 
@@ -333,8 +369,11 @@ def _forbidden(fields):
 
 def _start(fields, byte0, at=0, length=0, byte6=0, byte7=0):
     """Bytes 0 to 7, alike in all kinds."""
-    return (bytes([byte0, fields.tc << 4])
-            + (at << 10 | length).to_bytes(2, "big")
+    attr = fields.attr
+    byte1 = fields.tc << 4 | attr.id_based << 2
+    orders = attr.relaxed << 13 | attr.no_snoop << 12
+    return (bytes([byte0, byte1])
+            + (orders | at << 10 | length).to_bytes(2, "big")
             + fields.sender.to_bytes(2, "big")
             + bytes([byte6, byte7]))
 

@@ -1,8 +1,10 @@
 """Field records: a packet's fields as a run of bytes, high byte first.
 
-The form of the test files: kind code, TC, sender, a 16-bit length (of the
-output buffer to write into, or of the packet that was read), then the fields
-of the kind in the order below with their widths in bytes, then payload.
+The form of the test files: kind code, TC, Attr (4 for ID-based ordering, 2
+for Relaxed Ordering, 1 for No Snoop), sender, a 16-bit length (of the output
+buffer to write into, or of the packet that was read), then the fields of the
+kind in the order below with their widths in bytes, then payload. Attr is never
+above 7: such a byte is no record.
 """
 
 import packets
@@ -33,7 +35,8 @@ def code_of(fields):
 def pack(fields, length, payload):
     """The record of these fields."""
     code = code_of(fields)
-    out = bytes([code, fields.tc]) + fields.sender.to_bytes(2, "big")
+    out = bytes([code, fields.tc, fields.attr.code()])
+    out += fields.sender.to_bytes(2, "big")
     out += length.to_bytes(2, "big")
     for name, width in KINDS[code][1]:
         out += getattr(fields, name).to_bytes(width, "big")
@@ -43,9 +46,12 @@ def pack(fields, length, payload):
 def unpack(record):
     """(fields, length, payload) of a record."""
     cls, layout = KINDS[record[0]]
-    values = {"tc": record[1], "sender": int.from_bytes(record[2:4], "big")}
-    length = int.from_bytes(record[4:6], "big")
-    at = 6
+    if record[2] >= len(packets.ATTRS):
+        raise ValueError("Attr without a meaning")
+    values = {"tc": record[1], "attr": packets.ATTRS[record[2]],
+              "sender": int.from_bytes(record[3:5], "big")}
+    length = int.from_bytes(record[5:7], "big")
+    at = 7
     for name, width in layout:
         if at + width > len(record):
             raise ValueError("record ends inside its fields")

@@ -3,6 +3,8 @@
 A form is one row of masks.NAMED: a kind with one byte 0.
 """
 
+from dataclasses import replace
+
 import masks
 import packets
 
@@ -36,7 +38,7 @@ def address(rng, wide, step):
 
 
 def fields(rng, form, length=None):
-    """Random valid fields; a Length may be asked for."""
+    """Random valid fields with Attr zero; a Length may be asked for."""
     tc, sender = rng.below(8), rng.bits(16)
     allowed = lengths(form)
     if allowed and length is None:
@@ -78,7 +80,7 @@ def payload(rng, record):
 
 
 def clean(rng, form, length=None):
-    """A random valid packet with every ignored bit zero."""
+    """A random valid packet with Attr and every ignored bit zero."""
     record = fields(rng, form, length)
     packet = packets.write(record, payload(rng, record), packets.LONGEST)
     if isinstance(packet, int):
@@ -87,9 +89,14 @@ def clean(rng, form, length=None):
 
 
 def noisy(rng, form, length=None):
-    """A random valid packet with random ignored bits."""
+    """A random valid packet with random Attr and ignored bits."""
     packet = clean(rng, form, length)
-    return masks.with_ignored(form, packet, rng.data(len(packet)))
+    return masks.with_noise(form, packet, rng.data(len(packet)))
+
+
+def ordered(rng, record):
+    """The record with random Attr bits."""
+    return replace(record, attr=rng.pick(packets.ATTRS))
 
 
 def poke(packet, at, mask, value):

@@ -5,10 +5,13 @@ hand from its table, and round trips both ways, where what is left of a packet
 is told by the masks and not by the writer. For the Function: examples 3, 4, 5,
 8 and 9, cases worked out by hand, the form of its scripts, that no refused
 call changes anything, and that the script of calls catches every wrong card.
+Of Attr: that reading, writing and the records keep it, and that nothing the
+Function or the listing does depends on it.
 """
 
 import io
 import sys
+from dataclasses import replace
 
 sys.dont_write_bytecode = True
 
@@ -23,6 +26,7 @@ import listing
 import masks
 import packets
 import reached
+import reached_attr
 import reached_order
 import reached_roles
 import records
@@ -31,8 +35,8 @@ import scripts_calls
 import wrong_cards
 from function import (OFF, ON, STOPPED, Entry, Function, Group, OpenRead,
                       OpenTr, Outcome)
-from packets import (Cpl, CplData, Ic, Inv, MemRead, MemWrite, Prq, Prs, Tr,
-                     read, size, write)
+from packets import (ATTRS, NO_ATTR, Attr, Cpl, CplData, Ic, Inv, MemRead,
+                     MemWrite, Prq, Prs, Tr, read, size, write)
 from rng import Rng
 
 done = 0
@@ -98,6 +102,32 @@ BY_HAND = (
      "30000000 0F0E0004 FFFFFFFF FFFFFFFA"),
     (Prs(0, 0x0F0E, 0xD00D, 15, 0x101), "",
      "32000000 0F0E0005 D00DF101 00000000"),
+    # The same with Attr.
+    (Tr(5, 0xBEEF, 0xA7, 32, 0xFEDCBA9876543000, 1, attr=Attr(1, 0, 0)), "",
+     "20540420 BEEFA7FF FEDCBA98 76543001"),
+    (Tr(0, 1, 0, 2, 0xFFFFF000, 1, attr=Attr(0, 1, 0)), "",
+     "00002402 000100FF FFFFF001"),
+    (MemRead(7, 0x1234, 0xFF, 1, 0xFFFFFFFC, 1, attr=Attr(0, 0, 1)), "",
+     "00701801 1234FF0F FFFFFFFC"),
+    (MemRead(1, 0x1234, 9, 32, 0x100000000, 0, attr=Attr(1, 1, 1)), "",
+     "20143020 123409FF 00000001 00000000"),
+    (MemWrite(0, 0x1234, 1, 0x44, 0, attr=Attr(0, 1, 1)), "DEADBEEF",
+     "40003001 1234000F 00000044 DEADBEEF"),
+    (MemWrite(2, 0x1234, 2, 0x8000000000000008, 1, attr=Attr(1, 1, 0)),
+     "0001020304050607",
+     "60242802 123400FF 80000000 00000008 00010203 04050607"),
+    (Cpl(3, 0x0A0B, 4, 0xABC, 0x0C0D, 0x1F, 0x7F, attr=Attr(1, 0, 1)), "",
+     "0A341000 0A0B8ABC 0C0D1F7F"),
+    (CplData(0, 0x0A0B, 1, 0xFFF, 0x0C0D, 0x80, 0x40, attr=Attr(0, 1, 0)),
+     "01020304", "4A002001 0A0B0FFF 0C0D8040 01020304"),
+    (Inv(6, 0x0F0E, 31, 0xD00D, 0x123456789ABCD000, 1, attr=Attr(1, 1, 1)),
+     "", "72643002 0F0E1F01 D00D0000 00000000 12345678 9ABCD800"),
+    (Ic(4, 0x0F0E, 0xD00D, 7, 0x00000001, attr=Attr(0, 1, 0)), "",
+     "32402000 0F0E0002 D00D0007 00000001"),
+    (Prq(0, 0x0F0E, 0xFFFFFFFFFFFFF000, 511, 0, 1, 0, attr=Attr(0, 1, 0)),
+     "", "30002000 0F0E0004 FFFFFFFF FFFFFFFA"),
+    (Prs(0, 0x0F0E, 0xD00D, 15, 0x101, attr=Attr(1, 0, 0)), "",
+     "32040000 0F0E0005 D00DF101 00000000"),
 )
 
 
@@ -140,7 +170,7 @@ def round_trips():
     rng = Rng(77)
     for form in samples.FORMS:
         for _ in range(150):
-            fields = samples.fields(rng, form)
+            fields = samples.ordered(rng, samples.fields(rng, form))
             data = samples.payload(rng, fields)
             packet = write(fields, data, 144)
             same("written", read(packet), fields)
@@ -167,18 +197,86 @@ def round_trips():
                 form_of(fields, packet), packet), packet)
 
 
+def attr_kept():
+    """Each Attr bit changes what is read just there, and is kept."""
+    same("codes", [attr.code() for attr in ATTRS], list(range(8)))
+    same("none", NO_ATTR, Attr(0, 0, 0))
+    rng = Rng(78)
+    for form in samples.FORMS:
+        for _ in range(40):
+            packet = samples.noisy(rng, form)
+            fields = read(packet)
+            data = packets.payload_of(fields, packet)
+            for at, mask, name in ((1, 0x04, "id_based"), (2, 0x20, "relaxed"),
+                                   (2, 0x10, "no_snoop")):
+                turned = samples.poke(packet, at, mask,
+                                      ~packet[at] & mask)
+                other = 1 - getattr(fields.attr, name)
+                want = replace(fields, attr=replace(fields.attr,
+                                                    **{name: other}))
+                same("just Attr", read(turned), want)
+                same("payload", packets.payload_of(want, turned), data)
+                again = write(want, data, 144)
+                same("kept", again, masks.without_ignored(form, turned))
+                same("back", read(again), want)
+                record = records.pack(want, 144, data)
+                same("record", records.unpack(record), (want, 144, data))
+                same("its byte", record[2], masks.attr_code(turned))
+                same("listed", listing.row(1, turned.hex().encode()),
+                     listing.row(1, packet.hex().encode()))
+            for code, attr in enumerate(ATTRS):
+                same("each", read(masks.with_attr(packet, code)),
+                     replace(fields, attr=attr))
+        for packet in cases_reading.forbidden(rng, form):
+            for code in range(8):
+                same("forbidden", read(masks.with_attr(packet, code)), 4)
+    for value in (8, 16, 0x80, 255):
+        try:
+            records.unpack(bytes([8, 0, value]) + bytes(9))
+            same("taken", True, False)
+        except ValueError:
+            same("no Attr", True, True)
+
+
+def attr_caught():
+    """The test of the packet layer catches readers and writers of Attr."""
+    lines = []
+    for letter, cases in ((b"R", cases_reading.cases(Rng(2))),
+                          (b"W", cases_writing.cases(Rng(3)))):
+        lines += [letter + line for _, line, want in cases if want == "ok"]
+
+    def answer_to(line):
+        try:
+            return drivers.packet_layer(line)
+        except AssertionError:  # what was read cannot be written
+            return None
+
+    right = [answer_to(line) for line in lines]
+    for name, sentence, where, text in wrong_cards.written(
+            wrong_cards.LAYER):
+        with caught.changed(where, text):
+            found = [line for line, answer in zip(lines, right)
+                     if answer_to(line) != answer]
+        same("caught by %d lines: %s: %s" % (len(found), name, sentence),
+             len(found) >= caught.WANTED, True)
+
+
 def lent_buffers():
     """What the writing test shows of the buffer."""
     same("lent", drivers.lent(253)[:3].hex() + drivers.lent(253)[249:].hex(),
          "fffefd" + "0605fffe")
-    prs = b"08000F0E%04XD00D0F0101"
+    prs = b"0800000F0E%04XD00D0F0101"
     packet = "320000000F0E0005D00DF10100000000"
     same("exact", drivers.writing(prs % 16), packet + "\t")
     same("larger", drivers.writing(prs % 19), packet + "\tEFEEED")
     same("short", drivers.writing(prs % 15),
          "BAD\t17\tFFFEFDFCFBFAF9F8F7F6F5F4F3F2F1")
     same("none", drivers.writing(prs % 0), "BAD\t17\t")
-    same("TC", drivers.writing(b"08010F0E0002D00D0F0101"), "BAD\t4\tFFFE")
+    same("Attr", drivers.writing(b"0800050F0E0010D00D0F0101"),
+         "320410000F0E0005D00DF10100000000\t")
+    same("Attr read", drivers.reading(b"328F3C030F0EFF05D00DFF01FFFFFFFF"),
+         "0800070F0E0010D00D0F0101\t320430000F0E0005D00DF10100000000")
+    same("TC", drivers.writing(b"0801070F0E0002D00D0F0101"), "BAD\t4\tFFFE")
     buffer = bytearray(b"abcd" * 5)
     got = packets.write_into(BY_HAND[0][0], b"", buffer)
     same("written into", buffer, bytearray(got + b"abcd"))
@@ -558,6 +656,49 @@ def script_form():
             same("not hex", True, True)
 
 
+def attr_decides_nothing():
+    """Packets that differ in Attr alone do the same in every script."""
+    card = Function()
+    for line, _ in cases_calls.cases(Rng(generate.SEED)):
+        name, fields, rest = calls.parse(bytes.fromhex(line.decode()))
+        if name == "show":
+            continue
+        before = card.copy()
+        outcome = calls.run(card, name, fields, rest)
+        if not isinstance(outcome, int) and outcome.packet:
+            same("sent", masks.attr_code(outcome.packet), 0)
+        if name != "receive" or len(rest) < packets.SHORTEST:
+            continue
+        for turned in (1, 2, 4, 7):
+            other = before.copy()
+            packet = masks.with_attr(rest, masks.attr_code(rest) ^ turned)
+            same("answer", other.receive(packet), outcome)
+            same("state", vars(other), vars(card))
+
+
+def attr_counts():
+    """What the generator asks of Attr."""
+    same("no packet yet", len(list(reached_attr.Layer().faults())), 2 * 96)
+    same("no call yet", len(list(reached_attr.Received().faults())),
+         8 * (len(reached_attr.TAKEN) + len(reached_attr.SENT)))
+    packet = write(BY_HAND[-1][0], b"", 16)
+    both = [masks.with_attr(packet, code) for code in range(8)]
+    same("unshown", reached_attr.unshown(both, ["1\tPRS\tx"] * 8), {"PRS"})
+    same("not all", reached_attr.unshown(both[1:], ["1\tPRS\tx"] * 7), set())
+    for what in (lambda: reached_attr.unshown(
+                     both, ["1\tPRS\tx"] * 7 + ["1\tPRS\ty"]),
+                 lambda: reached_attr.sent_clear(both[1]),
+                 lambda: reached_attr.Layer().add(
+                     "writing", b"08000000" + b"00" * 8,
+                     both[2].hex().upper() + "\t")):
+        try:
+            what()
+            same("not noticed", True, False)
+        except AssertionError:
+            same("noticed", True, True)
+    reached_attr.sent_clear(both[0])
+
+
 def refusals():
     """No refused call changes anything; the fixed scripts."""
     script = calls.Script()
@@ -584,7 +725,7 @@ def wrong():
         wanted = caught.wanted(name)
         same("caught by %d lines: %s: %s" % (len(places), name, sentence),
              len(places) >= wanted, True)
-    same("cards", len(results) >= 700, True)
+    same("cards", len(results) >= 900, True)
     same("the right card", caught.catches(
         "drain", wrong_cards.METHODS["drain"], caught.PLAYED["calls"]), [])
     print("wrong cards: %d, each caught by %d lines or more but for %d"
@@ -621,10 +762,10 @@ def rows():
 
 
 for part in (examples, by_hand, over_long, round_trips,
-             lent_buffers, lines,
+             attr_kept, attr_caught, lent_buffers, lines,
              function_examples, new_and_reset, switches, fills, two_packets,
              reads_and_itags, page_groups, script_form, refusals, rows,
-             wrong):
+             attr_counts, attr_decides_nothing, wrong):
     part()
 for text in failed[:20]:
     print(text)

@@ -3,8 +3,10 @@
 A wrong card is a name, a sentence that says what is wrong, and a change of
 the source: in one method (of function.py, or packets.py or calls.py if marked
 so), a piece of text that stands there once gives way to another. WRITTEN has
-those written by hand. Two families are made from the source itself: each
-refusal never given, and each under another number. caught.py plays them.
+those written by hand, ATTR those that heed or send Attr bits, LAYER those that
+only the test of the packet layer can tell. Two families are made from the
+source itself: each refusal never given, and each under another number.
+caught.py plays them.
 """
 
 import re
@@ -1863,6 +1865,241 @@ WRITTEN = (
 )
 
 
+# --- Attr -----------------------------------------------------------------
+
+# Name in a record, name in words, and an Attr of it alone.
+FLAGS = (("id_based", "ID-based ordering", "packets.Attr(1, 0, 0)"),
+         ("relaxed", "Relaxed Ordering", "packets.Attr(0, 1, 0)"),
+         ("no_snoop", "No Snoop", "packets.Attr(0, 0, 1)"))
+SENDERS = (("ask", "TR"), ("read", "MEM read"), ("write", "MEM write"),
+           ("drain", "IC"), ("page_request", "PRQ"))
+TAKEN = (("Cpl", "CPL without data"), ("CplData", "CPL with data"),
+         ("Inv", "INV"), ("Prs", "PRS"))
+A_COMPLETION = "if isinstance(fields, (packets.Cpl, packets.CplData)):"
+OUR_FIELDS = "tc=0, sender=self.id,"
+
+# What a card does otherwise if a bit (%(bit)s) is set in what it received.
+HEEDED = (
+    ("fill", "A completion with %s fills nothing.", "_tr_data",
+     "self._apply(request, log2, words)",
+     "if not fields.attr.%(bit)s:\n"
+     "            self._apply(request, log2, words)"),
+    ("discard", "A completion with %s is discarded.", "_tr_data",
+     "if request.stale or", "if request.stale or fields.attr.%(bit)s or"),
+    ("second", "The Lower Address of a second with %s is free.", "_tr_data",
+     "if fields.lower != 0:",
+     "if fields.lower != 0 and not fields.attr.%(bit)s:"),
+    ("out-of-order", "Data with %s may come out of order.", "_read_data",
+     "if fields.byte_count != request.due:",
+     "if fields.byte_count != request.due and not fields.attr.%(bit)s:"),
+    ("never-last", "Data with %s is never the last.", "_read_data",
+     "if left == 0:", "if left == 0 and not fields.attr.%(bit)s:"),
+    ("always-last", "Data with %s is always the last.", "_read_data",
+     "if left == 0:", "if left == 0 or fields.attr.%(bit)s:"),
+    ("tag-open", "A failure with %s leaves its tag open.", "_completion",
+     "self.tags[fields.tag] = None",
+     "self.tags[fields.tag] = request if fields.attr.%(bit)s else None"),
+    ("aborts", "Any failure of a TR with %s is an abort.", "_completion",
+     "if fields.status == 4:",
+     "if fields.status == 4 or fields.attr.%(bit)s:"),
+    ("e-stays", "E stays set after a failure with %s.", "_completion",
+     "self.enabled = False", "self.enabled = bool(fields.attr.%(bit)s)"),
+    ("no-8", "No data and status 000 with %s is taken.", "_completion",
+     "if fields.status == 0:",
+     "if fields.status == 0 and not fields.attr.%(bit)s:"),
+    ("deletes-not", "An INV with %s deletes nothing.", "_invalidate",
+     "if entry is not None and overlap(",
+     "if entry is not None and not fields.attr.%(bit)s and overlap("),
+    ("stale-not", "An INV with %s makes no TR stale.", "_invalidate",
+     "if isinstance(request, OpenTr):",
+     "if isinstance(request, OpenTr) and not fields.attr.%(bit)s:"),
+    ("waits-not", "An INV with %s passes the open reads.", "_invalidate",
+     "and request.translated:",
+     "and request.translated and not fields.attr.%(bit)s:"),
+    ("forgotten", "An INV with %s is never completed.", "_invalidate",
+     "self.waiting = self.waiting | {fields.itag}",
+     "if not fields.attr.%(bit)s:\n"
+     "            self.waiting = self.waiting | {fields.itag}"),
+    ("no-agent", "An INV with %s does not fix the agent.", "_invalidate",
+     "self.agent = fields.sender",
+     "if not fields.attr.%(bit)s:\n"
+     "            self.agent = fields.sender"),
+    ("no-9", "An ITag that waits may come again with %s.", "_invalidate",
+     "if fields.itag in self.waiting:",
+     "if fields.itag in self.waiting and not fields.attr.%(bit)s:"),
+    ("no-10", "With %s another agent may invalidate.", "_invalidate",
+     "and fields.sender != self.agent:",
+     "and fields.sender != self.agent and not fields.attr.%(bit)s:"),
+    ("no-credit", "A PRS with %s brings no credits back.", "_response",
+     "self.credits += self.groups[fields.index].sent",
+     "if not fields.attr.%(bit)s:\n"
+     "            self.credits += self.groups[fields.index].sent"),
+    ("group-stays", "A PRS with %s closes no group.", "_response",
+     "self.groups[fields.index] = Group()",
+     "if not fields.attr.%(bit)s:\n"
+     "            self.groups[fields.index] = Group()"),
+    ("stops", "Any PRS with %s is a failure.", "_response",
+     "if fields.code >= 2:",
+     "if fields.code >= 2 or fields.attr.%(bit)s:"),
+    ("stops-not", "A failure with %s does not stop the pages.", "_response",
+     "self._close_pages(STOPPED)",
+     "self._close_pages(OFF if fields.attr.%(bit)s else STOPPED)"),
+    ("any-group", "A PRS with %s is for any group.", "_response",
+     "not self.groups[fields.index].waits:",
+     "not (self.groups[fields.index].waits or fields.attr.%(bit)s):"),
+    ("any-device", "A PRS with %s is for any Function.", "receive",
+     "if isinstance(fields, packets.Prs):\n"
+     "            if fields.device != self.id:",
+     "if isinstance(fields, packets.Prs):\n"
+     "            if fields.device != self.id and not fields.attr.%(bit)s:"),
+    ("any-kind", "A packet of any kind with %s is taken.", "receive",
+     "return self._response(fields)\n        return 2",
+     "return self._response(fields)\n"
+     "        return DONE if fields.attr.%(bit)s else 2"),
+)
+# Notes the Attr of what is received, and lends it to one kind that is sent.
+COPIES = """if name == "receive" and len(rest) > 2:
+        function.seen = rest[1] & 0x04, rest[2] & 0x30
+    if name == %r and not vars(function).get("inside"):
+        function.inside = True
+        got = run(function, name, f, rest)
+        function.inside = False
+        if isinstance(got, int) or not got.packet:
+            return got
+        one, two = vars(function).get("seen", (0, 0))
+        first = [got.packet[0], got.packet[1] | one, got.packet[2] | two]
+        return type(got)(got.answer, got.number,
+                         bytes(first) + got.packet[3:])
+    if name == "reset":"""
+
+ATTR = (
+    *(("attr-sent-%s-%s" % (where, bit), "A %s has %s set." % (kind, words),
+       where, OUR_FIELDS, "attr=%s, %s" % (alone, OUR_FIELDS))
+      for where, kind in SENDERS for bit, words, alone in FLAGS),
+    *(("attr-copied-" + where, "A %s has the Attr last received." % kind,
+       "calls.run", "if name == \"reset\":",
+       COPIES % where.replace("_", " "))
+      for where, kind in SENDERS),
+    ("attr-sent-read-n", "A read of an entry with N has No Snoop set.",
+     "read", OUR_FIELDS, "attr=packets.Attr(0, 0, entry.n), " + OUR_FIELDS),
+    ("attr-sent-write-n", "A write to an entry with N has No Snoop set.",
+     "write", OUR_FIELDS, "attr=packets.Attr(0, 0, entry.n), " + OUR_FIELDS),
+    ("attr-sent-l", "The last request of a group has Relaxed Ordering set.",
+     "page_request", OUR_FIELDS,
+     "attr=packets.Attr(0, l, 0), " + OUR_FIELDS),
+    ("attr-sent-not-l", "All requests but the last have Relaxed Ordering set.",
+     "page_request", OUR_FIELDS,
+     "attr=packets.Attr(0, 1 - l, 0), " + OUR_FIELDS),
+    ("attr-layout-id-based", "ID-based ordering is always written.",
+     "packets._start", "attr.id_based << 2", "1 << 2"),
+    ("attr-layout-relaxed", "Relaxed Ordering is always written.",
+     "packets._start", "attr.relaxed << 13", "1 << 13"),
+    ("attr-layout-no-snoop", "No Snoop is always written.",
+     "packets._start", "attr.no_snoop << 12", "1 << 12"),
+    *(("attr-refused-%s-%s" % (kind, bit), "A %s with %s is refused."
+       % (text, words), "receive",
+       *early(A_COMPLETION, "isinstance(fields, packets.%s) and "
+              "fields.attr.%s" % (kind, bit), 4))
+      for kind, text in TAKEN for bit, words, _ in FLAGS),
+    *(("attr-refused-%s-%d" % (kind, code), "A %s with Attr %d is refused."
+       % (text, code), "receive",
+       *early(A_COMPLETION, "isinstance(fields, packets.%s) and "
+              "fields.attr.code() == %d" % (kind, code), 4))
+      for kind, text in TAKEN for code in range(8)),
+    *(("attr-ignored-%s-%s" % (kind, bit), "A %s with %s does nothing."
+       % (text, words), "receive",
+       *also(A_COMPLETION, "if isinstance(fields, packets.%s) and "
+             "fields.attr.%s:\n            return DONE" % (kind, bit)))
+      for kind, text in TAKEN for bit, words, _ in FLAGS),
+    *(("attr-%s-%s" % (name, bit), sentence % words, where, old,
+       new % {"bit": bit})
+      for name, sentence, where, old, new in HEEDED
+      for bit, words, _ in FLAGS),
+    ("attr-clear-wanted", "Only packets with Attr zero are taken.",
+     "receive", *early(A_COMPLETION, "fields.attr != packets.NO_ATTR", 4)),
+    ("attr-all-refused", "Packets with all of Attr set are not taken.",
+     "receive", *early(A_COMPLETION, "fields.attr == packets.ATTRS[7]", 4)),
+    ("attr-tc-bit-3", "ID-based ordering is a fourth bit of TC.",
+     "packets.read", "packet[1] >> 4 & 7",
+     "(packet[1] >> 4 & 7) | (packet[1] << 1 & 8)"),
+    ("attr-tc-bit-0", "ID-based ordering is the low bit of TC as well.",
+     "packets.read", "packet[1] >> 4 & 7",
+     "(packet[1] >> 4 & 7) | (packet[1] >> 2 & 1)"),
+    ("attr-tc-low-half", "TC is all of byte 1.",
+     "packets.read", "packet[1] >> 4 & 7", "packet[1]"),
+    ("attr-poison-relaxed", "Relaxed Ordering is taken for EP.",
+     "packets.read", "packet[2] & 0xC0", "packet[2] & 0xE0"),
+    ("attr-poison-no-snoop", "No Snoop is taken for EP.",
+     "packets.read", "packet[2] & 0xC0", "packet[2] & 0xD0"),
+    ("attr-td-with-attr", "TD beside Attr bits is not looked at.",
+     "packets.read", "packet[2] & 0xC0",
+     "packet[2] & (0x40 if packet[2] & 0x30 else 0xC0)"),
+    ("attr-ep-with-attr", "EP beside ID-based ordering is not looked at.",
+     "packets.read", "packet[2] & 0xC0",
+     "packet[2] & (0x80 if packet[1] & 0x04 else 0xC0)"),
+    ("attr-length-relaxed", "Relaxed Ordering is a bit of Length.",
+     "packets.read", "& 0x3FF", "& 0x23FF"),
+    ("attr-length-no-snoop", "No Snoop is a bit of Length.",
+     "packets.read", "& 0x3FF", "& 0x13FF"),
+    ("attr-4-first", "Relaxed Ordering beside TD or EP is 4.",
+     "packets.read", "if packet[2] & 0xC0:",
+     "if packet[2] & 0xC0 and packet[2] & 0x20:\n        return 4\n"
+     "    if packet[2] & 0xC0:"),
+    ("attr-tc-free", "With ID-based ordering a PRS may have any TC.",
+     "packets._read_message", "if tc != 0:",
+     "if tc != 0 and not packet[1] & 0x04:"),
+    ("attr-status-free", "With No Snoop data may have any status.",
+     "packets._read_completion", "if status != 0:",
+     "if status != 0 and not packet[2] & 0x10:"),
+)
+
+
+# Readers and writers that no call can tell, since the Function sends zeros.
+LAYER = (
+    ("layer-reads-none", "Attr is not read.",
+     "packets._read_attr", "packet[1] >> 2 & 1, packet[2] >> 5 & 1, "
+     "packet[2] >> 4 & 1", ""),
+    ("layer-reads-swapped", "Byte 2's two bits are read crosswise.",
+     "packets._read_attr", "packet[2] >> 5 & 1, packet[2] >> 4 & 1",
+     "packet[2] >> 4 & 1, packet[2] >> 5 & 1"),
+    ("layer-reads-bit-3", "ID-based ordering is read from bit 3.",
+     "packets._read_attr", "packet[1] >> 2", "packet[1] >> 3"),
+    ("layer-reads-bit-1", "ID-based ordering is read from bit 1.",
+     "packets._read_attr", "packet[1] >> 2", "packet[1] >> 1"),
+    ("layer-reads-bit-7", "ID-based ordering is read from bit 7.",
+     "packets._read_attr", "packet[1] >> 2", "packet[1] >> 7"),
+    ("layer-reads-not-of-messages", "Attr of messages is not read.",
+     "packets.read", "attr=_read_attr(packet)",
+     "attr=NO_ATTR if byte0 in CODES else _read_attr(packet)"),
+    ("layer-reads-not-of-tr", "Attr of a TR is not read.",
+     "packets.read", "attr=_read_attr(packet)",
+     "attr=NO_ATTR if isinstance(fields, Tr) else _read_attr(packet)"),
+    ("layer-reads-not-of-wide", "Attr of a 64-bit form is not read.",
+     "packets.read", "attr=_read_attr(packet)",
+     "attr=NO_ATTR if byte0 in (0x20, 0x60) else _read_attr(packet)"),
+    ("layer-writes-no-id-based", "ID-based ordering is not written.",
+     "packets._start", " | attr.id_based << 2", ""),
+    ("layer-writes-no-relaxed", "Relaxed Ordering is not written.",
+     "packets._start", "attr.relaxed << 13 | ", ""),
+    ("layer-writes-no-no-snoop", "No Snoop is not written.",
+     "packets._start", " | attr.no_snoop << 12", ""),
+    ("layer-writes-swapped", "Byte 2's two bits are written crosswise.",
+     "packets._start", "attr.relaxed << 13 | attr.no_snoop << 12",
+     "attr.no_snoop << 13 | attr.relaxed << 12"),
+    ("layer-writes-bit-3", "ID-based ordering is written into bit 3.",
+     "packets._start", "attr.id_based << 2", "attr.id_based << 3"),
+    ("layer-writes-both", "Relaxed Ordering is written with No Snoop alone.",
+     "packets._start", "attr.relaxed << 13",
+     "(attr.relaxed | attr.no_snoop) << 13"),
+    ("layer-writes-not-in-messages", "Attr of messages is not written.",
+     "packets._start", "attr = fields.attr",
+     "attr = NO_ATTR if byte0 in CODES else fields.attr"),
+    ("layer-forbids-prq", "A PRQ with Relaxed Ordering is forbidden.",
+     "packets._forbidden", "return fields.tc != 0",
+     "return fields.tc != 0 or fields.attr.relaxed"),
+)
+
+
 # --- made from the source -------------------------------------------------
 
 # A record has two bytes for the ID: no call can meet this one.
@@ -1885,9 +2122,9 @@ METHODS = (methods_of(function, "") | methods_of(packets, "packets.")
            | methods_of(calls, "calls."))
 
 
-def written():
+def written(cards_by_hand=WRITTEN + ATTR):
     """Those written by hand, with the text of the changed method."""
-    for name, sentence, where, old, new in WRITTEN:
+    for name, sentence, where, old, new in cards_by_hand:
         text = METHODS[where]
         if text.count(old) != 1:
             raise AssertionError("%s: its text stands there %d times"

@@ -89,13 +89,23 @@ static struct answer emit(struct maker *m, unsigned call_, unsigned flags, unsig
 }
 
 static void emit_plain(struct maker *m, unsigned call_, unsigned number) { emit(m, call_, 0, number, 0, OUT, 0, 0); }
-static void emit_packet(struct maker *m, const uint8_t *b, size_t n) { emit(m, RECEIVE, 0, 0, 0, OUT, b, n); }
 
 static void emit_reset(struct maker *m, unsigned id, unsigned stu, unsigned rcb) {
     emit(m, RESET, stu, id, rcb, OUT, 0, 0);
 }
 
-// Packets that the card receives.
+// Packets that the card receives, with Attr at random: no side may decide anything by it.
+
+static void emit_packet(struct maker *m, const uint8_t *b, size_t n) {
+    uint8_t ordered[144];
+    unsigned attr = pick(m, 8);
+    memcpy(ordered, b, n);
+    if (n > 2) {
+        ordered[1] |= attr >> 2 << 2;
+        ordered[2] |= (attr & 3) << 4;
+    }
+    emit(m, RECEIVE, 0, 0, 0, OUT, ordered, n);
+}
 
 static void emit_completion(struct maker *m, unsigned tag, unsigned count, unsigned lower, const uint8_t *payload, size_t load) {
     uint8_t b[144] = {0x4A, 0, 0, load / 4, 0, 8, count >> 8, count, m->f.id >> 8, m->f.id, tag, lower};

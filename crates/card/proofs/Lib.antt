@@ -5,3 +5,4 @@ pub mod Tables
 pub mod Invariant
 pub mod Completed
 pub mod Computed
+pub mod Attr

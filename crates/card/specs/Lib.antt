@@ -1,3 +1,4 @@
 pub mod Call
 pub mod Numbers
 pub mod Sound
+pub mod Attr

@@ -180,4 +180,4 @@ module _ (me : Noted) (f : Function) (o : Ok me f) (bytes out : List ℕ) (ty : 
   pub good-drain : eqb (readyOf f) 0 ≡ false
       → Does (Good me f drain-call) (sends left (carries (ones (readyOf f))) (invalidateCompletionPacket (f .id) (f .agent) (readyOf f)) [] out)
   good-drain ready =
-      good-send me f drain-call _ _ (invalidateCompletionPacket (f .id) (f .agent) (readyOf f)) [] (typed-completion (headOf (f .id)) (o .id) _ (o .agent) (omega (arith, o .vector, without-le (f .waiting) (delayedItags (f .tags))))) (own-packet me (invalidateCompletionPacket (f .id) (f .agent) (readyOf f)) (o .own) refl (rw ready refl)) left-ok (λ i. refl) sent-step
+      good-send me f drain-call _ _ (invalidateCompletionPacket (f .id) (f .agent) (readyOf f)) [] (typed-completion (headOf (f .id)) (o .id) _ (o .agent) (omega (arith, o .vector, without-le (f .waiting) (delayedItags (f .tags))))) (own-packet me (invalidateCompletionPacket (f .id) (f .agent) (readyOf f)) (ap headOf (o .own)) (rw ready refl)) left-ok (λ i. refl) sent-step

@@ -189,7 +189,7 @@ module _ (me : Noted) (f : Function) (o : Ok me f) (a : AskArgs) (bytes out : Li
       let free = free-tag (f .tags) t (o .tags) e in
       let own = free .0 in
       good-send me f ask-call _ _ (translationRequestPacket (f .id) t a) []
-      (typed-request (headOf (f .id)) (o .id) _ (omega (arith, ltb-true (t .0) 32 own)) (omega (arith, ltb-true (a .address) (2 ^ 64) ty))) (own-packet me (translationRequestPacket (f .id) t a) (o .own) refl refl)
+      (typed-request (headOf (f .id)) (o .id) _ (omega (arith, ltb-true (t .0) 32 own)) (omega (arith, ltb-true (a .address) (2 ^ 64) ty))) (own-packet me (translationRequestPacket (f .id) t a) (ap headOf (o .own)) refl)
       (opened-ok me f o t own b (λ q e. (let unit : f .stu ≡ q .stu = cc in sym unit, λ d. let z : 0 ≡ q .whole = cc in sym z)) in-none) (λ i. refl)
       (rw (asks-units (a .units) (n .0), unitsFrom-low-bits (a .address) (a .units - 1) (me .stu), ← o .unit)
       (open-step me f o t own b (free .1) (TR (t .0) (record { stu = f .stu; range = unitsFrom (a .address) (a .units - 1) (f .stu) })) (λ u. refl)
@@ -308,7 +308,7 @@ module _ (me : Noted) (f : Function) (o : Ok me f) (a : AccessArgs) (bytes out :
       → Does (Good me f access-call) (writeTo f at (a .dwords) bytes out)
   good-write at is up =
       let g = goes at up in
-      good-send me f access-call _ _ (memoryRequestPacket (f .id) Write (a .dwords) at) bytes (typed-access (headOf (f .id)) (o .id) _ tt (g .inside)) (own-packet me (memoryRequestPacket (f .id) Write (a .dwords) at) (o .own) refl refl) o (λ i. refl)
+      good-send me f access-call _ _ (memoryRequestPacket (f .id) Write (a .dwords) at) bytes (typed-access (headOf (f .id)) (o .id) _ tt (g .inside)) (own-packet me (memoryRequestPacket (f .id) Write (a .dwords) at) (ap headOf (o .own)) refl) o (λ i. refl)
       (writes (view f) (at .translated) _ (at .address) (served ToWrite is at g _ (rw (ne-eqb (a .dwords) 0 (omega (arith, g .least))))) (asked-for ToWrite is at g _))
 
   pub good-read : (at : Target) (t : Tag) → a .direction ≡ ToRead → lookingUp f a (length bytes) ≡ ok at
@@ -319,7 +319,7 @@ module _ (me : Noted) (f : Function) (o : Ok me f) (a : AccessArgs) (bytes out :
       let own = free .0 in
       let b = newRead (a .address) (4 * a .dwords) (at .translated) in
       good-send me f access-call _ _ (memoryRequestPacket (f .id) (Fetches t) (a .dwords) at) bytes
-      (typed-access (headOf (f .id)) (o .id) _ (omega (arith, ltb-true (t .0) 32 own)) (g .inside)) (own-packet me (memoryRequestPacket (f .id) (Fetches t) (a .dwords) at) (o .own) refl refl)
+      (typed-access (headOf (f .id)) (o .id) _ (omega (arith, ltb-true (t .0) 32 own)) (g .inside)) (own-packet me (memoryRequestPacket (f .id) (Fetches t) (a .dwords) at) (ap headOf (o .own)) refl)
       (opened-ok me f o t own b (λ q e. impossible cc) in-none) (λ i. refl)
       (rw (is, ne-eqb (a .dwords) 0 (omega (arith, g .least)))
       (open-step me f o t own b (free .1) (READ (t .0) (at .translated) (record { address = some (a .address); bytes = 4 * a .dwords }) (at .address)) (λ u. refl) (λ u p. refl) (λ i. refl) in-none
@@ -333,4 +333,4 @@ module _ (me : Noted) (f : Function) (o : Ok me f) (q : PageRequest) (bytes out 
 
   pub good-page : Does (Good me f page-call) (sends (withPages f (withRequest (f .pages) q)) done (pageRequestPacket (f .id) q) [] out)
   good-page =
-      good-send me f page-call _ _ (pageRequestPacket (f .id) q) [] (typed-page (headOf (f .id)) (o .id) q (ltb-true (q .page) (2 ^ 64) ty)) (own-packet me (pageRequestPacket (f .id) q) (o .own) refl refl) (same-ok me f o (f .enabled) (withRequest (f .pages) q)) (λ i. refl) (quiet (view f))
+      good-send me f page-call _ _ (pageRequestPacket (f .id) q) [] (typed-page (headOf (f .id)) (o .id) q (ltb-true (q .page) (2 ^ 64) ty)) (own-packet me (pageRequestPacket (f .id) q) (ap headOf (o .own)) refl) (same-ok me f o (f .enabled) (withRequest (f .pages) q)) (λ i. refl) (quiet (view f))

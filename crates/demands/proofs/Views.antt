@@ -28,6 +28,7 @@ use Rattle.tags.specs.Tags.{tagState, translationRange, delayedBy}
 use Rattle.state.specs.declared.Function.{Function}
 use Rattle.state.specs.declared.Agent.{Agent}
 use Rattle.state.specs.declared.Agent.the-variants.{Unknown, Known}
+use Rattle.state.specs.State.{headOf}
 use Rattle.state.specs.Answers.{Unrefused, Success, sendsNothing, sends}
 use Rattle.state.proofs.Laws.{Does, does-nothing, does-write}
 use Rattle.call_send.specs.Drain.{agentId}
@@ -38,9 +39,8 @@ use Rattle.demand3.proofs.Laws.{View, Step, Through}
 use Rattle.demands.specs.Observed.{Asked, Wanted, Cached, terms, Call, Noted, itag, isListed, callTaken, packetSent, isSole, isOurs, isPacket, heldIn}
 
 -- ---- a packet with the Function's ID
-pub own-packet : (me : Noted) (p : Packet) → p .head .sender ≡ me .id → p .head .tc ≡ 0 → isSole (p .body) ≡ true
-    → isOurs me (ok p) ≡ true
-own-packet me p own class sole = rw (eq-eqb (p .head .sender) (me .id) own, eq-eqb (p .head .tc) 0 class, sole)
+pub own-packet : (me : Noted) (p : Packet) → p .head ≡ headOf (me .id) → isSole (p .body) ≡ true → isOurs me (ok p) ≡ true
+own-packet me p own sole = rw (own, eq-eqb (me .id) (me .id) refl, sole)
 
 -- ---- one tag
 
@@ -136,13 +136,13 @@ module _ (me : Noted) (f : Function) (c : Call) where
     where
       whole : (n : ℕ) → writing p (length load) (length (c .out)) ≡ ok n
           → take n (bytesOf p load ++ drop (length (bytesOf p load)) (c .out)) ≡ bytesOf p load
-      whole n e = rw e at (sent-bytes p load (c .out) n ty e)
+      whole n e = rw e at (sent-bytes p load (c .out) n e)
 
       one : (n : ℕ) → writing p (length load) (length (c .out)) ≡ ok n
           → Good me f c (record { state = g; answer = w; sent = n; bytes = bytesOf p load })
       one n e =
           let out = take n (bytesOf p load ++ drop (length (bytesOf p load)) (c .out)) in
-          let back : reading out ≡ ok p = rw e at (sent-reads p load (c .out) n ty e) in
+          let back : reading out ≡ ok p = rw e at (sent-reads p load (c .out) n e ty) in
           record { ok = o; step = rw back s; legible = rw (back, ours) (or-true (eqb (length out) 0)); written = rw (whole n e); apart = λ i a h. no-some (sym (alone i) ∙ h) }
 
 -- nothing is received or sent, and nothing changes

@@ -20,6 +20,7 @@ use Rattle.packet.specs.declared.Body.the-variants.{Tr, Mem, Cpl, Inv, Ic, Prq,
 use Rattle.packet.specs.declared.Packet.{Packet}
 use Rattle.packet.specs.Numbers.{Result, ok, refusal}
 use Rattle.packet.specs.Forms.{dwordCount}
+use Rattle.packet.specs.Kinds.{attrBits}
 use Rattle.packet.specs.Reading.{reading, payloadIn}
 use Rattle.tlp.specs.Bytes.{areBytes}
 use Rattle.tlp.specs.Translations.{translationAt}
@@ -273,8 +274,8 @@ abbrev pub packetSent : ℕ → Command → Result Packet → Option (Sent terms
 packetSent stu c (ok p) = bodySent stu c (p .body)
 packetSent stu c (refusal n) = none
 
--- a packet of a kind that the Function sends, with its ID and Traffic Class 0; an Invalidate Completion has Completion
--- Count 1 and completes something
+-- a packet of a kind that the Function sends, with its ID, Traffic Class 0 and no bit of Attr; an Invalidate Completion
+-- has Completion Count 1 and completes something
 abbrev pub isSole : Body → Bool
 isSole (Tr t) = true
 isSole (Mem m) = true
@@ -285,7 +286,8 @@ isSole (Prq q) = true
 isSole (Prs s) = false
 
 abbrev pub isOurs : Noted → Result Packet → Bool
-isOurs me (ok p) = eqb (p .head .sender) (me .id) && (eqb (p .head .tc) 0 && isSole (p .body))
+isOurs me (ok p) =
+    eqb (p .head .sender) (me .id) && (eqb (p .head .tc) 0 && (eqb (attrBits (p .head .attr)) 0 && isSole (p .body)))
 isOurs me (refusal n) = false
 
 -- bytes that are read as such a packet, or no bytes

@@ -3,12 +3,14 @@ use mathlib.Core.Path.{_≡_, refl}
 use mathlib.Core.Bool.{true, false, cond}
 use mathlib.Core.List.{List, [], _∷_, _++_}
 use Prim.Native.Nat.{ℕ, zero, suc, _+_, _/_, _%_, _^_}
+use Rattle.packet.specs.declared.Attr.{Attr}
 use Rattle.packet.specs.declared.Packet.{Packet}
 use Rattle.packet.specs.declared.Body.the-variants.{Tr, Inv, Ic, Prq}
 use Rattle.packet.specs.declared.InvalidateRequest.{InvalidateRequest}
 use Rattle.packet.specs.declared.PageRequest.{PageRequest}
 use Rattle.packet.specs.Numbers.{ok, refusal, Result}
 use Rattle.packet.specs.Frames.{fourBytes}
+use Rattle.packet.specs.Kinds.{noAttr}
 use Rattle.packet.specs.Reading.{reading}
 use Rattle.packet.specs.Writing.{bytesOf, writing}
 use Rattle.lister.specs.Line.{lineRead, lineText}
@@ -62,17 +64,21 @@ abbrev invalidateRequest : ℕ → InvalidateRequest
 invalidateRequest address = record { itag = record { 0 = 3 }; device = 0x0100; address = address; sized = true }
 
 abbrev invalidation : ℕ → Packet
-invalidation address = record { head = record { tc = 0; sender = 0x0200 }; body = Inv (invalidateRequest address) }
+invalidation address = record { head = record { tc = 0; attr = noAttr; sender = 0x0200 }; body = Inv (invalidateRequest address) }
 
 -- page 203000h, index 3, R and L
 abbrev page : PageRequest
 page = record { page = 0x203000; index = record { 0 = 3 }; last = true; write = false; read = true }
 
-abbrev pageRequest : Packet
-pageRequest = record { head = record { tc = 0; sender = 0x0100 }; body = Prq page }
+abbrev pageRequest : Attr → Packet
+pageRequest attr = record { head = record { tc = 0; attr = attr; sender = 0x0100 }; body = Prq page }
 
-abbrev pageBytes : List ℕ
-pageBytes = fourBytes 0x3000_0000 ++ fourBytes 0x0100_0004 ++ fourBytes 0 ++ fourBytes 0x0020_301D
+abbrev relaxedOrdering : Attr
+relaxedOrdering = record { ido = false; relaxed = true; nosnoop = false }
+
+-- its bytes, with this first DWORD
+abbrev pageBytes : ℕ → List ℕ
+pageBytes dword0 = fourBytes dword0 ++ fourBytes 0x0100_0004 ++ fourBytes 0 ++ fourBytes 0x0020_301D
 
 -- the last digits of a number in hex, as characters
 abbrev inHex : ℕ → ℕ → List ℕ
@@ -169,19 +175,27 @@ examples =
     -- 5: the second of two units makes the request stale
     ∷ tagState (afterInvalidate .tags) (record { 0 = 0 }) is Translate (record { address = 0x0FFF_FFFF_C000; further = 1; stu = 2; stale = true; size = 0; whole = 0; due = 0 })
     -- 6: lines 1 and 2 of the listing
-    ∷ reading (fourBytes 0x0000_0402 ++ fourBytes 0x0100_05FF ++ fourBytes 0x0020_3000) is ok (record { head = record { tc = 0; sender = 0x0100 }; body = Tr (record { tag = record { 0 = 5 }; dwords = 2; address = 0x203000; nowrite = false }) })
-    ∷ reading (fourBytes 0x3200_0000 ++ fourBytes 0x0100_0002 ++ fourBytes 0x0008_0001 ++ fourBytes 0x8000_0001) is ok (record { head = record { tc = 0; sender = 0x0100 }; body = Ic (record { device = 0x0008; cc = 1; vector = 0x8000_0001 }) })
+    ∷ reading (fourBytes 0x0000_0402 ++ fourBytes 0x0100_05FF ++ fourBytes 0x0020_3000) is ok (record { head = record { tc = 0; attr = noAttr; sender = 0x0100 }; body = Tr (record { tag = record { 0 = 5 }; dwords = 2; address = 0x203000; nowrite = false }) })
+    ∷ reading (fourBytes 0x3200_0000 ++ fourBytes 0x0100_0002 ++ fourBytes 0x0008_0001 ++ fourBytes 0x8000_0001) is ok (record { head = record { tc = 0; attr = noAttr; sender = 0x0100 }; body = Ic (record { device = 0x0008; cc = 1; vector = 0x8000_0001 }) })
     ∷ lineText 1 line1 is shown1
     ∷ lineText 2 line2 is shown2
     -- 7: a page request, byte for byte, as the writer and as the Function sends it
-    ∷ bytesOf pageRequest [] is pageBytes
-    ∷ writing pageRequest 0 16 is ok 16
-    ∷ outcome (functionAfter (started 0) ((PagesOn 1, []) ∷ [])) (Requests page) [] is (ok done, 16, pageBytes)
+    ∷ bytesOf (pageRequest noAttr) [] is pageBytes 0x3000_0000
+    ∷ writing (pageRequest noAttr) 0 16 is ok 16
+    ∷ outcome (functionAfter (started 0) ((PagesOn 1, []) ∷ [])) (Requests page) [] is (ok done, 16, pageBytes 0x3000_0000)
     -- 8: at the top of the address space one unit can be requested, and two cannot
     ∷ outcome (started 0) (ask 0xFFFF_FFFF_FFFF_F000 1) [] is (ok (tag 0), 16, fourBytes 0x2000_0402 ++ fourBytes 0x0100_00FF ++ fourBytes 0xFFFF_FFFF ++ fourBytes 0xFFFF_F000)
     ∷ outcome (started 0) (ask 0xFFFF_FFFF_FFFF_F000 2) [] is (refusal 12, 0, buffer)
+    -- 02 a: the last page request of a group, with Relaxed Ordering clear and with it set; each of the other two bits alone
+    ∷ reading (pageBytes 0x3000_0000) is ok (pageRequest noAttr)
+    ∷ reading (pageBytes 0x3000_2000) is ok (pageRequest relaxedOrdering)
+    ∷ reading (pageBytes 0x3004_0000) is ok (pageRequest (record { ido = true; relaxed = false; nosnoop = false }))
+    ∷ reading (pageBytes 0x3000_1000) is ok (pageRequest (record { ido = false; relaxed = false; nosnoop = true }))
+    -- the unnamed bits of these bytes mean nothing, and are written as zero
+    ∷ reading (pageBytes 0x308B_2F00) is ok (pageRequest relaxedOrdering)
+    ∷ bytesOf (pageRequest relaxedOrdering) [] is pageBytes 0x3000_2000
     ∷ []
 
 pub examples-hold : Hold examples
 unfolding computed allHex unhex decimal decimalIn lineRead lineText outLine
-examples-hold = (refl, (refl, (refl, (refl, (refl, (refl, (refl, (refl, (refl, (refl, (refl, (refl, (refl, (refl, (refl, (refl, (refl, (refl, (refl, (refl, (refl, (refl, (refl, (refl, (refl, (refl, (refl, (refl, (refl, tt)))))))))))))))))))))))))))))
+examples-hold = (refl, (refl, (refl, (refl, (refl, (refl, (refl, (refl, (refl, (refl, (refl, (refl, (refl, (refl, (refl, (refl, (refl, (refl, (refl, (refl, (refl, (refl, (refl, (refl, (refl, (refl, (refl, (refl, (refl, (refl, (refl, (refl, (refl, (refl, (refl, tt)))))))))))))))))))))))))))))))))))

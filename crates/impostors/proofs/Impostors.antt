@@ -5,7 +5,7 @@ use mathlib.Core.Logic.{⊎-elim}
 use mathlib.Core.Bool.{Bool, true, false, cond, _||_}
 use mathlib.Core.List.{List, [], _∷_, map}
 use mathlib.Core.Option.{Option, none, some}
-use Prim.Native.Nat.{ℕ, _-_}
+use Prim.Native.Nat.{ℕ, _+_, _-_}
 use native.Mathlib.Omega.{arith}
 use lib.Dec.{eqb, leb, lit<}
 use lib.ListN.{length, set, getD}
@@ -30,7 +30,7 @@ use Rattle.tags.specs.declared.TagRow.{TagRow}
 use Rattle.tags.specs.Tags.{tagRow}
 use Rattle.state.specs.declared.Function.{Function}
 use Rattle.state.specs.declared.Agent.the-variants.{Unknown, Known}
-use Rattle.state.specs.State.{fresh, rcbOf, withAgent, withWaiting, withCache, withTags, withTag}
+use Rattle.state.specs.State.{headOf, fresh, rcbOf, withAgent, withWaiting, withCache, withTags, withTag}
 use Rattle.state.specs.Answers.{Observed, done, carries, payloadLast}
 use Rattle.call_access.specs.Access.{memoryRequestPacket}
 use Rattle.call_send.specs.Drain.{invalidateCompletionPacket, readyOf}
@@ -44,7 +44,7 @@ use Rattle.demand3.specs.Runs.{Machine, Bench, stateAfter, Unbroken, Run, arriv
 use Rattle.demand3.specs.Order.{Completed, Order}
 use Rattle.demand3.proofs.Consequence.{broughtIn, brought-in}
 use Rattle.demands.specs.Observed.{Call, Cached, Wanted, terms, isRefused, isReset, addressFor, callTaken, observer, heldIn}
-use Rattle.impostors.proofs.Runs.{simply, enable, drain, ask, read, granted, grantedLate, firstPart, bothParts, nothingSaid, elsewhere, tooMany, request, another, anothers, garbled, reset, three, four-of-another, page}
+use Rattle.impostors.proofs.Runs.{simply, enable, drain, ask, read, granted, grantedLate, firstPart, bothParts, nothingSaid, elsewhere, tooMany, request, ordered, another, anothers, garbled, reset, three, four-of-another, page}
 use Rattle.lemmas.proofs.Cases.{byCases, impossible}
 use Rattle.atc.proofs.Laws.{laws}
 use Rattle.demands.proofs.Views.{no-entry}
@@ -312,7 +312,7 @@ hollow f c = let r = honest f c in by (delivered c) r r (withBuffer (record { st
 
 -- it sends a PRG Response
 abbrev foreign : Function → Call → Observed
-foreign f c = let r = honest f c in by (delivered c) r r r (record { state = r .state; answer = ok done; sent = 16; buffer = bytesOf (record { head = record { tc = 0; sender = 0 }; body = Prs (record { index = record { 0 = 0 }; device = 0; code = 0 }) }) [] })
+foreign f c = let r = honest f c in by (delivered c) r r r (record { state = r .state; answer = ok done; sent = 16; buffer = bytesOf (record { head = headOf 0; body = Prs (record { index = record { 0 = 0 }; device = 0; code = 0 }) }) [] })
 
 -- it shows old entries as free slots, and goes on using them
 abbrev buried : Entry → Entry
@@ -333,18 +333,18 @@ tombsCard =
       held = tombs;
     }
 
--- ---- two with more state than a Function
+-- ---- three with more state than a Function
 
 pub record Odd : Type 0 where
   pub inner : Function
   pub drawer : Entry
-  pub spent : Bool
+  pub flag : Bool
 
 abbrev oddBy : (Odd → Call → Odd) → (Odd → Call → List ℕ) → Machine observer
 oddBy moves writes =
     record {
       State = Odd;
-      new = record { inner = fresh 0 0 (rcbOf 64); drawer = noEntry; spent = false };
+      new = record { inner = fresh 0 0 (rcbOf 64); drawer = noEntry; flag = false };
       state = moves;
       answer = λ x c. let r = honest (x .inner) c in record { answer = r .answer; sent = r .sent };
       buffer = writes;
@@ -358,18 +358,29 @@ putBack f e = withCache f (filledWith e (f .cache))
 abbrev drawerMoves : Odd → Call → Odd
 drawerMoves x c =
     let g = honest (x .inner) c .state in
-    let same : Odd = record { inner = g; drawer = x .drawer; spent = false } in
-    by (delivered c) (record { inner = putBack g (x .drawer); drawer = x .drawer; spent = false }) (record { inner = g; drawer = entryAt (x .inner .cache) 0; spent = false }) same same
+    let same : Odd = record { inner = g; drawer = x .drawer; flag = false } in
+    by (delivered c) (record { inner = putBack g (x .drawer); drawer = x .drawer; flag = false }) (record { inner = g; drawer = entryAt (x .inner .cache) 0; flag = false }) same same
 
 abbrev drawerCard : Machine observer
 drawerCard = oddBy drawerMoves (λ x c. honest (x .inner) c .buffer)
 
 -- it drains correctly once, and then only answers that it did
 abbrev idleMoves : Odd → Call → Odd
-idleMoves x c = record { inner = honest (x .inner) c .state; drawer = noEntry; spent = x .spent || by (delivered c) false false true false }
+idleMoves x c = record { inner = honest (x .inner) c .state; drawer = noEntry; flag = x .flag || by (delivered c) false false true false }
 
 abbrev idleCard : Machine observer
-idleCard = oddBy idleMoves (λ x c. cond (x .spent) (c .out) (honest (x .inner) c .buffer))
+idleCard = oddBy idleMoves (λ x c. cond (x .flag) (c .out) (honest (x .inner) c .buffer))
+
+-- once a packet with Relaxed Ordering has come, it sends with Relaxed Ordering
+abbrev isRelaxed : Result Packet → Bool
+isRelaxed (ok p) = p .head .attr .relaxed
+isRelaxed (refusal n) = false
+
+abbrev echoMoves : Odd → Call → Odd
+echoMoves x c = record { inner = honest (x .inner) c .state; drawer = noEntry; flag = x .flag || isRelaxed (reading (c .bytes)) }
+
+abbrev echoCard : Machine observer
+echoCard = oddBy echoMoves (λ x c. let b = honest (x .inner) c .buffer in cond (x .flag) (set b 2 (getD b 2 0 + 0x20)) b)
 
 -- ---- why they are refused
 
@@ -437,6 +448,7 @@ pub record Refused : Type 1 where
   pub unwritten : Order (cardBy unwritten) → ⊥
   pub astray : Order (cardBy astray) → ⊥
   pub idle : Order idleCard → ⊥
+  pub echo : Order echoCard → ⊥
   pub again : Order (cardBy again) → ⊥
   pub curious : Order (cardBy curious) → ⊥
   pub repeater : Order (cardBy repeater) → ⊥
@@ -478,6 +490,7 @@ refused =
       unwritten = λ d. let M = cardBy unwritten in let z : _≡_ {A = ℕ} 1 0 = d .new .letter .counts (to M (request ∷ []) drain [] (refl, (refl, tt)) tt) three in omega arith;
       astray = λ d. let M = cardBy astray in let z : _≡_ {A = ℕ} 1 0 = d .new .letter .counts (to M (request ∷ []) drain [] (refl, (refl, tt)) tt) three in omega arith;
       idle = λ d. let M = idleCard in let z : _≡_ {A = ℕ} 2 1 = d .new .letter .counts (to M (request ∷ drain ∷ request ∷ []) drain [] (refl, (refl, (refl, (refl, tt)))) tt) three in omega arith;
+      echo = λ d. let M = echoCard in no-tf (sym (d .new .beyond .legible (to M (ordered ∷ []) drain [] (refl, (refl, tt)) tt)));
       again = λ d. let M = cardBy again in no-some (sym (d .new .beyond .tags (to M (ask ∷ enable ∷ []) ask [] (refl, (refl, (refl, tt))) tt) 0 refl .1));
       curious = λ d. let M = cardBy curious in no-some (sym (d .new .letter .reads (to M (enable ∷ []) request (drain ∷ []) (refl, (refl, tt)) (refl, tt)) three page (refl, lit< tt) 0));
       repeater = λ d. let M = cardBy repeater in no-some (sym (d .new .letter .reads (to M warm request (drain ∷ firstPart ∷ firstPart ∷ []) (refl, (refl, (refl, (refl, (refl, (refl, tt)))))) (refl, (refl, (refl, tt)))) three page (refl, lit< tt) 0));

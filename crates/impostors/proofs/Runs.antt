@@ -80,10 +80,15 @@ nothingSaid = receive (fourBytes 0x0A00_0000 ++ fourBytes 0x0008_0008 ++ fourByt
 abbrev pub elsewhere : Call
 elsewhere = receive (fourBytes 0x4A00_0002 ++ fourBytes 0x0008_0008 ++ fourBytes 0x0300_0000 ++ fourBytes 0x1122_3344 ++ fourBytes 0x5566_7788) refl
 
--- an Invalidate Request of ITag 3, from 0200h, for the page at 5000h; and one of ITag 4 from 0300h
+-- an Invalidate Request of ITag 3, from 0200h, for the page at 5000h
 abbrev pub request : Call
 request = receive (fourBytes 0x7200_0002 ++ fourBytes 0x0200_0301 ++ fourBytes 0 ++ fourBytes 0 ++ fourBytes 0 ++ fourBytes 0x5000) refl
 
+-- the same with Relaxed Ordering
+abbrev pub ordered : Call
+ordered = receive (fourBytes 0x7200_2002 ++ fourBytes 0x0200_0301 ++ fourBytes 0 ++ fourBytes 0 ++ fourBytes 0 ++ fourBytes 0x5000) refl
+
+-- one of ITag 4 from 0300h
 abbrev pub another : Call
 another = receive (fourBytes 0x7200_0002 ++ fourBytes 0x0300_0401 ++ fourBytes 0 ++ fourBytes 0 ++ fourBytes 0 ++ fourBytes 0x5000) refl
 

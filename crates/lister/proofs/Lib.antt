@@ -5,3 +5,4 @@ pub mod Injective
 pub mod Spelled
 pub mod Feeds
 pub mod Holds
+pub mod Attr

@@ -3,3 +3,4 @@ pub mod Line
 pub mod Stream
 pub mod Pieces
 pub mod Blocks
+pub mod Attr

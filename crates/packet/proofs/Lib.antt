@@ -1,3 +1,4 @@
 pub mod Laws
+pub mod SameButAttr
 pub mod Injective
 pub mod Among

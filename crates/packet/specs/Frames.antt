@@ -25,9 +25,13 @@ num64At b i = num32At b i * 2 ^ 32 + num32At b (i + 4)
 abbrev pub dwordsAt : List ℕ → ℕ
 dwordsAt b = byte b 2 % 4 * 256 + byte b 3
 
+-- Attr (02 a), a number of three bits: bit 2 of byte 1, then bits 5:4 of byte 2
+abbrev pub attrAt : List ℕ → ℕ
+attrAt b = byte b 1 / 4 % 2 * 4 + byte b 2 / 16 % 4
+
 -- byte 1 has TC in bits 6:4; byte 2 has TD and EP in bits 7:6; bytes 4 and 5 are the sender's ID
 abbrev pub decodeFront : List ℕ → Front
-decodeFront b = record { tc = byte b 1 / 16 % 8; marks = byte b 2 / 64; sender = num16At b 4 }
+decodeFront b = record { tc = byte b 1 / 16 % 8; attr = attrAt b; marks = byte b 2 / 64; sender = num16At b 4 }
 
 -- Byte 2 has AT in bits 3:2. Bytes 12 to 15 count as 0 in a packet of fewer than 16 bytes, and the body in one of fewer than 24.
 unfoldable pub decodeFrame : List ℕ → Frame
@@ -52,8 +56,8 @@ fourBytes n = (n / 16777216 % 256) ∷ (n / 65536 % 256) ∷ (n / 256 % 256) ∷
 abbrev pub encodeFrame : Frame → List ℕ
 encodeFrame f =
     f .byte0
-    ∷ (f .front .tc % 8 * 16)
-    ∷ (f .at % 4 * 4 + f .dwords / 256 % 4)
+    ∷ (f .front .tc % 8 * 16 + f .front .attr / 4 % 2 * 4)
+    ∷ (f .front .attr % 4 * 16 + f .at % 4 * 4 + f .dwords / 256 % 4)
     ∷ (f .dwords % 256)
     ∷ (f .front .sender / 256 % 256)
     ∷ (f .front .sender % 256)

@@ -1,11 +1,12 @@
 -- The rest of the table of kinds: the fields of each kind in a frame, the frame of a packet, forbidden values, and field widths. 01, "The seven packets", "Forbidden values".
 use Prim.Native.Nat.{ℕ, _+_, _*_, _/_, _%_, _^_}
-use mathlib.Core.Bool.{Bool, true, cond, not, _&&_}
+use mathlib.Core.Bool.{Bool, true, false, cond, not, _&&_}
 use lib.Dec.{ltb, leb, eqb}
 use Rattle.packet.specs.declared.Front.{Front}
 use Rattle.packet.specs.declared.Frame.{Frame}
 use Rattle.packet.specs.declared.Form.{Form}
 use Rattle.packet.specs.declared.Form.the-variants.{Mrd32, Mrd64, Mwr32, Mwr64, CplNoData, CplData, InvReq, InvCpl, PageReq, PrgResp}
+use Rattle.packet.specs.declared.Attr.{Attr}
 use Rattle.packet.specs.declared.Head.{Head}
 use Rattle.packet.specs.declared.Access.{Access}
 use Rattle.packet.specs.declared.Access.the-variants.{Read, Write}
@@ -18,8 +19,16 @@ use Rattle.packet.specs.Forms.{byte0Of, dwordCount, byteEnables}
 
 -- ---- the fields of a frame
 
+-- Attr, from its high bit: ID-based ordering, Relaxed Ordering, No Snoop
+abbrev pub attrIn : ℕ → Attr
+attrIn n = record { ido = eqb (n / 4 % 2) 1; relaxed = eqb (n / 2 % 2) 1; nosnoop = eqb (n % 2) 1 }
+
+-- no bit of it set
+abbrev pub noAttr : Attr
+noAttr = record { ido = false; relaxed = false; nosnoop = false }
+
 abbrev pub headIn : Front → Head
-headIn f = record { tc = f .tc; sender = f .sender }
+headIn f = record { tc = f .tc; attr = attrIn (f .attr); sender = f .sender }
 
 -- the address of the 64-bit forms, and the QWORD that a Page Request has there
 abbrev pub address64In : Frame → ℕ
@@ -245,9 +254,13 @@ abbrev pub outcomeStatus : Outcome → ℕ
 outcomeStatus (Data w) = 0
 outcomeStatus (Status s) = s
 
+-- Attr as a number, its high bit first
+abbrev pub attrBits : Attr → ℕ
+attrBits a = bitOf (a .ido) * 4 + bitOf (a .relaxed) * 2 + bitOf (a .nosnoop)
+
 -- TD and EP are written as zero
 abbrev pub frontOf : Head → Front
-frontOf h = record { tc = h .tc; marks = 0; sender = h .sender }
+frontOf h = record { tc = h .tc; attr = attrBits (h .attr); marks = 0; sender = h .sender }
 
 unfoldable pub packetFrame : Front → Body → Frame
 packetFrame front (Tr t) =

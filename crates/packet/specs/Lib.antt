@@ -5,4 +5,5 @@ pub mod Kinds
 pub mod Reading
 pub mod Writing
 pub mod Normal
+pub mod SameButAttr
 pub mod Among

@@ -11,20 +11,20 @@ use Rattle.packet.specs.declared.Form.the-variants.{Mrd32, Mrd64, Mwr32,
 use Rattle.packet.specs.Frames.{byte, decodeFrame}
 use Rattle.packet.specs.Forms.{choose}
 
--- TC in byte 1; TD and EP in byte 2, and AT and Length if the kind has them; all of bytes 0, 4, 5 and
--- 7; byte 6 depends on the kind
+-- TC and a bit of Attr (02 a) in byte 1; TD, EP and the other bits of Attr in byte 2, and AT and Length if the kind has
+-- them; all of bytes 0, 4, 5 and 7; byte 6 depends on the kind
 abbrev pub frontMask : ℕ → ℕ → ℕ → List ℕ
-frontMask byte2 byte3 byte6 = 0xFF ∷ 0x70 ∷ byte2 ∷ byte3 ∷ 0xFF ∷ 0xFF ∷ byte6 ∷ 0xFF ∷ []
+frontMask byte2 byte3 byte6 = 0xFF ∷ 0x74 ∷ byte2 ∷ byte3 ∷ 0xFF ∷ 0xFF ∷ byte6 ∷ 0xFF ∷ []
 
 -- bytes 0 to 7 of the kinds that have AT and Length, Length alone, or neither
 abbrev pub addressedMask : ℕ → List ℕ
-addressedMask byte6 = frontMask 0xCF 0xFF byte6
+addressedMask byte6 = frontMask 0xFF 0xFF byte6
 
 abbrev pub countedMask : ℕ → List ℕ
-countedMask byte6 = frontMask 0xC3 0xFF byte6
+countedMask byte6 = frontMask 0xF3 0xFF byte6
 
 abbrev pub plainMask : ℕ → List ℕ
-plainMask byte6 = frontMask 0xC0 0x00 byte6
+plainMask byte6 = frontMask 0xF0 0x00 byte6
 
 -- the upper half of a 64-bit address
 abbrev pub upperMask : List ℕ

@@ -36,9 +36,17 @@ pub enum Refusal {
     BufferTooShort,
 }
 
-// The fields that every kind has: Traffic Class and the sender's ID.
+// The three Attr bits: ID-based ordering, Relaxed Ordering and No Snoop.
+pub struct Attr {
+    pub ido: bool,
+    pub relaxed: bool,
+    pub nosnoop: bool,
+}
+
+// The fields that every kind has: Traffic Class, Attr and the sender's ID.
 pub struct Head {
     pub tc: u8,
+    pub attr: Attr,
     pub sender: u16,
 }
 
@@ -141,9 +149,11 @@ pub enum Choice {
     Unlisted,
 }
 
-// The values of the bits that mean the same in every kind. `marks` is TD and EP.
+// The values of the bits that mean the same in every kind. `attr` is Attr as a number of three
+// bits, and `marks` is TD and EP.
 pub struct Front {
     pub tc: u8,
+    pub attr: u8,
     pub marks: u8,
     pub sender: u16,
 }

@@ -1,5 +1,6 @@
 // Decodes the fields of each kind from a frame.
 use packet::Access;
+use packet::Attr;
 use packet::Body;
 use packet::Completion;
 use packet::Form;
@@ -17,14 +18,25 @@ use packet::PrgResponse;
 use packet::Tag;
 use packet::TranslationRequest;
 ghost use mathlib.Core.Path.{_≡_};
-ghost use Rattle.packet.specs.Kinds.{headIn, address64In, trIn, memIn, readRequestIn, countIn, cplIn, invIn, icIn, prqIn, prsIn, bodyIn};
+ghost use Rattle.packet.specs.Kinds.{attrIn, headIn, address64In, trIn, memIn, readRequestIn, countIn, cplIn, invIn, icIn, prqIn, prsIn, bodyIn};
 
-// Traffic Class and sender's ID.
+fn attr(n: u8) -> Attr
+    ensures { λ r. ⌜ r ≡ attrIn n ⌝ }
+{
+    Attr {
+        ido: n / 4 % 2 == 1,
+        relaxed: n / 2 % 2 == 1,
+        nosnoop: n % 2 == 1,
+    }
+}
+
+// Traffic Class, Attr and sender's ID.
 pub(crate) fn head(f: Front) -> Head
     ensures { λ r. ⌜ r ≡ headIn f ⌝ }
 {
     Head {
         tc: f.tc,
+        attr: attr(f.attr),
         sender: f.sender,
     }
 }

@@ -13,7 +13,7 @@ use packet::Refusal;
 ghost use mathlib.Core.Path.{_≡_};
 ghost use Prim.Native.Nat.{_≤_};
 ghost use lib.ListN.{length, drop};
-ghost use Rattle.packet.specs.Frames.{decodeFront, decodeFrame, dwordsAt};
+ghost use Rattle.packet.specs.Frames.{attrAt, decodeFront, decodeFrame, dwordsAt};
 ghost use Rattle.packet.specs.Reading.{readResult, reading, payloadIn, qwordAt};
 
 fn dwords(b: &[u8]) -> u16
@@ -23,12 +23,20 @@ fn dwords(b: &[u8]) -> u16
     nums::at(b, 2) % 4 * 256 + nums::at(b, 3)
 }
 
+fn attr_at(b: &[u8]) -> u8
+    requires { ⌜ 12 ≤ length (now b) ⌝ }
+    ensures { λ r. ⌜ r ≡ attrAt (now (b .entry)) ⌝ }
+{
+    b[1] / 4 % 2 * 4 + b[2] / 16 % 4
+}
+
 fn decode_front(b: &[u8]) -> Front
     requires { ⌜ 12 ≤ length (now b) ⌝ }
     ensures { λ r. ⌜ r ≡ decodeFront (now (b .entry)) ⌝ }
 {
     Front {
         tc: b[1] / 16 % 8,
+        attr: attr_at(b),
         marks: b[2] / 64,
         sender: nums::num16(b, 4),
     }

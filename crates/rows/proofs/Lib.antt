@@ -1,3 +1,4 @@
 pub mod Short
 pub mod Laying
 pub mod Numerals
+pub mod Attr

@@ -1,5 +1,6 @@
 // The Function: its state, what its calls answer, and the calls that neither send nor receive.
 use atc::Cache;
+use packet::Attr;
 use packet::Head;
 use packet::Refusal;
 use packet::Tag;
@@ -281,9 +282,17 @@ pub fn pages_off(f: Function) -> Effect
     }
 }
 
-// The head of a packet to send: Traffic Class 0 and the Function's ID.
+// The head of a packet to send: Traffic Class 0, zeros in Attr, and the Function's ID.
 pub fn head(id: u16) -> Head
     ensures { λ r. ⌜ r ≡ headOf id ⌝ }
 {
-    Head { tc: 0, sender: id }
+    Head {
+        tc: 0,
+        attr: Attr {
+            ido: false,
+            relaxed: false,
+            nosnoop: false,
+        },
+        sender: id,
+    }
 }

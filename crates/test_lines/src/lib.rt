@@ -123,7 +123,7 @@ fn write_into(r: &[u8], space: &mut [u8], out: &mut [u8], at: usize) -> usize {
 // Encodes the packet of a record into a buffer whose length the record gives, at most 512.
 fn write_one(r: &[u8], out: &mut [u8], at: usize) -> usize {
     let mut space = [0u8; 512];
-    let room = take::num16(r, 4) as usize % 513;
+    let room = test_records::take_length(r) as usize % 513;
     write_into(r, &mut space[..room], out, at)
 }
 

@@ -1,9 +1,10 @@
-// Records of packets: bytes with the kind, TC, sender, a length, and the fields of the kind. The
-// test programs for stored vectors use them.
+// Records of packets: bytes with the kind, TC, Attr, sender, a length, and the fields of the kind.
+// The test programs for stored vectors use them.
 pub mod put;
 pub mod take;
 
 use packet::Access;
+use packet::Attr;
 use packet::Body;
 use packet::Completion;
 use packet::Head;
@@ -18,6 +19,7 @@ use packet::PrgIndex;
 use packet::PrgResponse;
 use packet::Tag;
 use packet::TranslationRequest;
+ghost use Prim.Native.Nat.{_≤_};
 
 fn access_code(a: Access) -> u8 {
     match a {
@@ -49,6 +51,17 @@ fn kind_code(body: Body) -> u8 {
         Body::Prq(_) => 7,
         Body::Prs(_) => 8,
     }
+}
+
+fn bit(b: bool) -> u8
+    ensures { λ r. ⌜ r ≤ 1 ⌝ }
+{
+    if b { 1 } else { 0 }
+}
+
+// 4 for ID-based ordering, 2 for Relaxed Ordering, 1 for No Snoop.
+fn attr_code(a: Attr) -> u8 {
+    bit(a.ido) * 4 + bit(a.relaxed) * 2 + bit(a.nosnoop)
 }
 
 fn put_tr(t: TranslationRequest, out: &mut [u8], at: usize) -> usize {
@@ -131,21 +144,23 @@ fn put_body(body: Body, out: &mut [u8], at: usize) -> usize {
 // Writes the record of a packet of n bytes with its payload.
 pub fn put_packet(p: Packet, n: u16, payload: &[u8], out: &mut [u8], at: usize) -> usize {
     let head = p.head;
+    let attr = head.attr;
     let body = p.body;
     let a = put::hex(out, at, kind_code(body));
     let b = put::hex(out, a, head.tc);
-    let c = put::hex16(out, b, head.sender);
-    let d = put::hex16(out, c, n);
-    let e = put_body(body, out, d);
-    put::hexes(out, e, payload)
+    let c = put::hex(out, b, attr_code(attr));
+    let d = put::hex16(out, c, head.sender);
+    let e = put::hex16(out, d, n);
+    let g = put_body(body, out, e);
+    put::hexes(out, g, payload)
 }
 
 fn take_tr(r: &[u8]) -> Body {
     Body::Tr(TranslationRequest {
-        tag: Tag(take::byte(r, 6)),
-        dwords: take::num16(r, 7),
-        address: take::num64(r, 9),
-        nowrite: take::flag(r, 17),
+        tag: Tag(take::byte(r, 7)),
+        dwords: take::num16(r, 8),
+        address: take::num64(r, 10),
+        nowrite: take::flag(r, 18),
     })
 }
 
@@ -178,36 +193,36 @@ fn take_cpl(r: &[u8], outcome: Outcome, from: usize) -> Body {
 
 fn take_inv(r: &[u8]) -> Body {
     Body::Inv(InvalidateRequest {
-        itag: ITag(take::byte(r, 6)),
-        device: take::num16(r, 7),
-        address: take::num64(r, 9),
-        sized: take::flag(r, 17),
+        itag: ITag(take::byte(r, 7)),
+        device: take::num16(r, 8),
+        address: take::num64(r, 10),
+        sized: take::flag(r, 18),
     })
 }
 
 fn take_ic(r: &[u8]) -> Body {
     Body::Ic(InvalidateCompletion {
-        device: take::num16(r, 6),
-        cc: take::byte(r, 8),
-        vector: take::num32(r, 9),
+        device: take::num16(r, 7),
+        cc: take::byte(r, 9),
+        vector: take::num32(r, 10),
     })
 }
 
 fn take_prq(r: &[u8]) -> Body {
     Body::Prq(PageRequest {
-        page: take::num64(r, 6),
-        index: PrgIndex(take::num16(r, 14)),
-        last: take::flag(r, 16),
-        write: take::flag(r, 17),
-        read: take::flag(r, 18),
+        page: take::num64(r, 7),
+        index: PrgIndex(take::num16(r, 15)),
+        last: take::flag(r, 17),
+        write: take::flag(r, 18),
+        read: take::flag(r, 19),
     })
 }
 
 fn take_prs(r: &[u8]) -> Body {
     Body::Prs(PrgResponse {
-        device: take::num16(r, 6),
-        code: take::byte(r, 8),
-        index: PrgIndex(take::num16(r, 9)),
+        device: take::num16(r, 7),
+        code: take::byte(r, 9),
+        index: PrgIndex(take::num16(r, 10)),
     })
 }
 
@@ -215,14 +230,22 @@ fn take_body(r: &[u8]) -> Body {
     let kind = take::byte(r, 0);
     match kind {
         0 => take_tr(r),
-        1 => take_mem(r, Access::Read(Tag(take::byte(r, 6))), 7),
-        2 => take_mem(r, Access::Write, 6),
-        3 => take_cpl(r, Outcome::Status(take::byte(r, 6)), 7),
-        4 => take_cpl(r, Outcome::Data(take::num16(r, 6)), 8),
+        1 => take_mem(r, Access::Read(Tag(take::byte(r, 7))), 8),
+        2 => take_mem(r, Access::Write, 7),
+        3 => take_cpl(r, Outcome::Status(take::byte(r, 7)), 8),
+        4 => take_cpl(r, Outcome::Data(take::num16(r, 7)), 9),
         5 => take_inv(r),
         6 => take_ic(r),
         7 => take_prq(r),
         _ => take_prs(r),
+    }
+}
+
+fn take_attr(code: u8) -> Attr {
+    Attr {
+        ido: code / 4 % 2 == 1,
+        relaxed: code / 2 % 2 == 1,
+        nosnoop: code % 2 == 1,
     }
 }
 
@@ -231,24 +254,30 @@ pub fn take_packet(r: &[u8]) -> Packet {
     Packet {
         head: Head {
             tc: take::byte(r, 1),
-            sender: take::num16(r, 2),
+            attr: take_attr(take::byte(r, 2)),
+            sender: take::num16(r, 3),
         },
         body: take_body(r),
     }
 }
 
+// The length that a record gives.
+pub fn take_length(r: &[u8]) -> u16 {
+    take::num16(r, 5)
+}
+
 // The index at which the payload of a record begins.
 fn payload_at(kind: u8) -> usize {
     match kind {
-        0 => 18,
-        1 => 18,
-        2 => 17,
-        3 => 13,
-        4 => 14,
-        5 => 18,
-        6 => 13,
-        7 => 19,
-        _ => 11,
+        0 => 19,
+        1 => 19,
+        2 => 18,
+        3 => 14,
+        4 => 15,
+        5 => 19,
+        6 => 14,
+        7 => 20,
+        _ => 12,
     }
 }
 

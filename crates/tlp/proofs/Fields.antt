@@ -1,7 +1,7 @@
 -- A packet and its frame, kind by kind.
 use Prim.Native.Nat.{ℕ, _+_, _*_, _/_, _%_, _<_, _≤_, _^_}
 use native.Mathlib.Omega.{arith}
-use mathlib.Core.Path.{_≡_, refl, sym, _∙_}
+use mathlib.Core.Path.{_≡_, refl, sym, ap, ap₂, _∙_}
 use mathlib.Core.Bool.{Bool, true, false, cond, _&&_}
 use lib.Dec.{ltb, leb, eqb, lit≤}
 use borrow.Author.Tests.{ltb-true, leb-true, leb-false, eqb-true, lt-ltb, le-leb, lt-leb, eq-eqb}
@@ -23,9 +23,10 @@ use Rattle.packet.specs.declared.PrgResponse.{PrgResponse}
 use Rattle.packet.specs.declared.Body.{Body}
 use Rattle.packet.specs.declared.Body.the-variants.{Tr, Mem, Cpl, Inv, Ic, Prq, Prs}
 use Rattle.packet.specs.Forms.{choose, byte0Of, payloadOffset, packetLength, byteEnables, dwordCount}
-use Rattle.packet.specs.Kinds.{headIn, frontOf, address64In, readRequestIn, memIn, bodyIn, wellFormedMem, wellFormedReadRequest, wellFormed, shortEnough, allowedOutcome, allowedBody, bodyInRange, accessPayloadLength, outcomePayloadLength, payloadLength, needs64Bits, accessForm, outcomeForm, formOf, bitOf, addressDword8, addressDword12, packetFrame}
+use Rattle.packet.specs.Kinds.{headIn, frontOf, address64In, readRequestIn, memIn, bodyIn, packetIn, wellFormedMem, wellFormedReadRequest, wellFormed, shortEnough, allowedOutcome, allowedBody, bodyInRange, accessPayloadLength, outcomePayloadLength, payloadLength, needs64Bits, accessForm, outcomeForm, formOf, bitOf, addressDword8, addressDword12, packetFrame}
 use Rattle.lemmas.proofs.Cases.{byCases, and-both}
-use Rattle.tlp.proofs.Frames.{SoundFront, Sound, halves}
+use Rattle.tlp.proofs.Fronts.{bit-back, bit-le, SoundFront, front-sound, head-back, frame-front}
+use Rattle.tlp.proofs.Frames.{Sound, halves}
 use Rattle.tlp.specs.Fields.{TypedAccess, TypedBody, Typed}
 
 -- packets whose fields fit their types
@@ -50,14 +51,6 @@ module _ (head : Head) (sound : head .sender < 65536) where
   typed-page q page = record { sender = sound; body = page }
 
 -- ---- flags and addresses
-
-bit-back : (b : Bool) → eqb (bitOf b) 1 ≡ b
-bit-back true = refl
-bit-back false = refl
-
-bit-le : (b : Bool) → bitOf b ≤ 1
-bit-le true = lit≤ tt
-bit-le false = lit≤ tt
 
 enables-lt : (w : ℕ) → byteEnables w < 256
 enables-lt w = byCases (eqb w 1) (λ e. rw e (lit≤ tt)) (λ e. rw e (lit≤ tt))
@@ -108,12 +101,16 @@ stores false = record { body = λ f. refl; shape = λ f. refl; chosen = λ b7. r
 -- what holds of a packet's frame
 pub record Framed (h : Head) (b : Body) : Type 0 where
   pub sound : Sound (packetFrame (frontOf h) b)
-  pub marks : packetFrame (frontOf h) b .front .marks ≡ 0
-  pub head : headIn (packetFrame (frontOf h) b .front) ≡ h
   pub chosen : choose (packetFrame (frontOf h) b .byte0) (packetFrame (frontOf h) b .byte7) ≡ Listed (formOf b)
   pub shape : wellFormed (formOf b) (packetFrame (frontOf h) b) ≡ true
   pub back : bodyIn (formOf b) (packetFrame (frontOf h) b) ≡ b
   pub long : packetLength (formOf b) (packetFrame (frontOf h) b .dwords) ≡ payloadOffset (formOf b) + payloadLength b
+
+-- it is read as that packet
+pub framed-packet : (h : Head) (b : Body) → Framed h b
+    → packetIn (formOf b) (packetFrame (frontOf h) b) ≡ record { head = h; body = b }
+framed-packet h b k =
+    ap₂ (λ (x : Head) (y : Body). record { head = x; body = y }) (ap headIn (frame-front (frontOf h) b) ∙ head-back h) (k .back)
 
 -- TR: the number that holds an address a and No Write
 module _ (a n : ℕ) (z : a % 4096 ≡ 0) (h : n ≤ 1) where
@@ -216,9 +213,6 @@ seat front start pair rest =
     }
 
 module _ (h : Head) (htc : h .tc < 8) (hs : h .sender < 65536) where
-  sound-head : SoundFront (frontOf h)
-  sound-head = record { tc = htc; marks = lit≤ tt; sender = hs }
-
   tr-framed : (t : TranslationRequest) → bodyInRange (Tr t) ≡ true → TypedBody (Tr t) → Framed h (Tr t)
   unfolding packetFrame formOf bodyInRange TypedBody payloadLength
   tr-framed t e ty =
@@ -230,9 +224,7 @@ module _ (h : Head) (htc : h .tc < 8) (hs : h .sender < 65536) where
       let w = tr-wide (t .address) n z hn in
       let a = t .address + n in
       record {
-        sound = seat sound-head (fetches (needs64Bits (t .address)) .first, lit≤ tt, ltb-true (t .dwords) 1024 (p .0)) (ty .0, lit≤ tt) (rw (x .0) (upper-lt a (tr-lt (t .address) n z hn (ty .1))), rw (x .0) (lower-lt a), lit≤ tt);
-        marks = refl;
-        head = refl;
+        sound = seat (front-sound h htc hs) (fetches (needs64Bits (t .address)) .first, lit≤ tt, ltb-true (t .dwords) 1024 (p .0)) (ty .0, lit≤ tt) (rw (x .0) (upper-lt a (tr-lt (t .address) n z hn (ty .1))), rw (x .0) (lower-lt a), lit≤ tt);
         chosen = fetches (needs64Bits (t .address)) .chosen _;
         shape = fetches (needs64Bits (t .address)) .shape _ ∙ rw (x .0, ← w) (upper-shape a true refl);
         back = fetches (needs64Bits (t .address)) .body _ ∙ rw (x .0, ← w, address-back a, x .1, x .2, bit-back (t .nowrite));
@@ -247,9 +239,7 @@ module _ (h : Head) (htc : h .tc < 8) (hs : h .sender < 65536) where
       let p = and-both (ltb dwords 1024) (eqb (a % 4) 0) e in
       let x = at-back t in
       record {
-        sound = seat sound-head (fetches (needs64Bits a) .first, x .3, ltb-true dwords 1024 (p .0)) (ty .0, enables-lt dwords) (upper-lt a (ty .1), lower-lt a, lit≤ tt);
-        marks = refl;
-        head = refl;
+        sound = seat (front-sound h htc hs) (fetches (needs64Bits a) .first, x .3, ltb-true dwords 1024 (p .0)) (ty .0, enables-lt dwords) (upper-lt a (ty .1), lower-lt a, lit≤ tt);
         chosen = fetches (needs64Bits a) .chosen (byteEnables dwords);
         shape = fetches (needs64Bits a) .shape _ ∙ rw (x .0, x .1, self (byteEnables dwords)) (upper-shape a true refl);
         back = fetches (needs64Bits a) .body _ ∙ rw (x .0, x .2, address-back a, mem-word a (eqb-true (a % 4) 0 (p .1)));
@@ -259,9 +249,7 @@ module _ (h : Head) (htc : h .tc < 8) (hs : h .sender < 65536) where
       let p = and-both (ltb dwords 1024) (eqb (a % 4) 0) e in
       let x = at-back t in
       record {
-        sound = seat sound-head (stores (needs64Bits a) .first, x .3, ltb-true dwords 1024 (p .0)) (lit≤ tt, enables-lt dwords) (upper-lt a (ty .1), lower-lt a, lit≤ tt);
-        marks = refl;
-        head = refl;
+        sound = seat (front-sound h htc hs) (stores (needs64Bits a) .first, x .3, ltb-true dwords 1024 (p .0)) (lit≤ tt, enables-lt dwords) (upper-lt a (ty .1), lower-lt a, lit≤ tt);
         chosen = stores (needs64Bits a) .chosen (byteEnables dwords);
         shape = stores (needs64Bits a) .shape _ ∙ rw (x .1, self (byteEnables dwords)) (upper-shape a true refl);
         back = stores (needs64Bits a) .body _ ∙ rw (x .2, address-back a, mem-word a (eqb-true (a % 4) 0 (p .1)));
@@ -278,9 +266,7 @@ module _ (h : Head) (htc : h .tc < 8) (hs : h .sender < 65536) where
       let x = cpl-bytes 0 n (lit≤ tt) (ltb-true n 4096 (p .0)) in
       let y = cpl-word d t l (ty .0) (ty .1) (ltb-true l 128 (q .0)) in
       record {
-        sound = seat sound-head (lit≤ tt, lit≤ tt, ltb-true w 1024 (q .1)) (x .2, x .3) (y .3, lit≤ tt, lit≤ tt);
-        marks = refl;
-        head = refl;
+        sound = seat (front-sound h htc hs) (lit≤ tt, lit≤ tt, ltb-true w 1024 (q .1)) (x .2, x .3) (y .3, lit≤ tt, lit≤ tt);
         chosen = refl;
         shape = rw (x .0);
         back = rw (x .1, y .0, y .1, y .2);
@@ -292,9 +278,7 @@ module _ (h : Head) (htc : h .tc < 8) (hs : h .sender < 65536) where
       let x = cpl-bytes s n (ltb-true s 8 (q .1)) (ltb-true n 4096 (p .0)) in
       let y = cpl-word d t l (ty .0) (ty .1) (ltb-true l 128 (q .0)) in
       record {
-        sound = seat sound-head (lit≤ tt, lit≤ tt, lit≤ tt) (x .2, x .3) (y .3, lit≤ tt, lit≤ tt);
-        marks = refl;
-        head = refl;
+        sound = seat (front-sound h htc hs) (lit≤ tt, lit≤ tt, lit≤ tt) (x .2, x .3) (y .3, lit≤ tt, lit≤ tt);
         chosen = refl;
         shape = refl;
         back = rw (x .0, x .1, y .0, y .1, y .2);
@@ -310,9 +294,7 @@ module _ (h : Head) (htc : h .tc < 8) (hs : h .sender < 65536) where
       let x = inv-word (i .address) (bitOf (i .sized)) (eqb-true (i .address % 4096) 0 (p .1)) (bit-le (i .sized)) (ty .1) in
       let d : (i .device * 65536 / 65536 ≡ i .device) × (i .device * 65536 < 2 ^ 32) = (omega arith, omega (arith, ty .0)) in
       record {
-        sound = seat sound-head (lit≤ tt, lit≤ tt, lit≤ tt) (g .0, lit≤ tt) (d .1, lit≤ tt, x .2);
-        marks = refl;
-        head = refl;
+        sound = seat (front-sound h htc hs) (lit≤ tt, lit≤ tt, lit≤ tt) (g .0, lit≤ tt) (d .1, lit≤ tt, x .2);
         chosen = refl;
         shape = refl;
         back = rw (g .1, d .0, x .0, x .1, bit-back (i .sized));
@@ -327,9 +309,7 @@ module _ (h : Head) (htc : h .tc < 8) (hs : h .sender < 65536) where
       let d = device-word (i .device) (i .cc) (ty .0) g in
       let c : (i .device * 65536 + i .cc) % 8 ≡ i .cc = omega arith in
       record {
-        sound = seat sound-head (lit≤ tt, lit≤ tt, lit≤ tt) (lit≤ tt, lit≤ tt) (d .1, ty .1, lit≤ tt);
-        marks = refl;
-        head = refl;
+        sound = seat (front-sound h htc hs) (lit≤ tt, lit≤ tt, lit≤ tt) (lit≤ tt, lit≤ tt) (d .1, ty .1, lit≤ tt);
         chosen = refl;
         shape = refl;
         back = rw (d .0, c);
@@ -348,9 +328,7 @@ module _ (h : Head) (htc : h .tc < 8) (hs : h .sender < 65536) where
       let a = q .page / 4096 * 4096 + i % 512 * 8 + l * 4 + w * 2 + r in
       let g = halves-lt a (x .5) in
       record {
-        sound = seat sound-head (lit≤ tt, lit≤ tt, lit≤ tt) (lit≤ tt, lit≤ tt) (g .0, g .1, lit≤ tt);
-        marks = refl;
-        head = refl;
+        sound = seat (front-sound h htc hs) (lit≤ tt, lit≤ tt, lit≤ tt) (lit≤ tt, lit≤ tt) (g .0, g .1, lit≤ tt);
         chosen = refl;
         shape = refl;
         back = rw (halves a, x .0, x .1, x .2, x .3, x .4, bit-back (q .last), bit-back (q .write), bit-back (q .read));
@@ -363,9 +341,7 @@ module _ (h : Head) (htc : h .tc < 8) (hs : h .sender < 65536) where
       let p = and-both (ltb (s .code) 16) (ltb (s .index .0) 512) e in
       let x = prs-word (s .device) (s .code) (s .index .0) ty (ltb-true (s .code) 16 (p .0)) (ltb-true (s .index .0) 512 (p .1)) in
       record {
-        sound = seat sound-head (lit≤ tt, lit≤ tt, lit≤ tt) (lit≤ tt, lit≤ tt) (x .3, lit≤ tt, lit≤ tt);
-        marks = refl;
-        head = refl;
+        sound = seat (front-sound h htc hs) (lit≤ tt, lit≤ tt, lit≤ tt) (lit≤ tt, lit≤ tt) (x .3, lit≤ tt, lit≤ tt);
         chosen = refl;
         shape = refl;
         back = rw (x .0, x .1, x .2);

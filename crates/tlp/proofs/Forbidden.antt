@@ -22,7 +22,7 @@ use Rattle.packet.specs.Kinds.{bodyIn, packetIn, wellFormed, shortEnough, allow
 use Rattle.packet.specs.Reading.{readForm, readChoice, reading}
 use Rattle.packet.specs.Writing.{writing, checkRoom}
 use Rattle.tlp.specs.Fields.{Typed}
-use Rattle.tlp.proofs.Fields.{fields}
+use Rattle.tlp.proofs.Fields.{framed-packet, fields}
 use Rattle.tlp.proofs.Refit.{Seven, chosen-by}
 use Rattle.tlp.specs.Forbidden.{above32, statusIn, forbidden, readListed, readingByPhrases, writingByPhrases}
 
@@ -205,7 +205,7 @@ module _ (p : Packet) (ty : Typed p) where
       let m = formOf (p .body) in
       let f = packetFrame (frontOf (p .head)) (p .body) in
       let whole = fields (p .head) (ltb-true (p .head .tc) 8 (bits .0)) (ty .sender) (p .body) (bits .1) (ty .body) in
-      let same : packetIn m f ≡ p = rw (whole .head, whole .back) in
+      let same : packetIn m f ≡ p = framed-packet (p .head) (p .body) whole in
       let c = rw (whole .chosen) at (chosen-by (f .byte0) (f .byte7)) in
       sym (ap (λ (b : Bool). b && allowed (packetIn m f)) (whole .shape) ∙ ap allowed same) ∙ by-phrases f (whole .sound .at) m (c .0) (c .1)
 

@@ -8,22 +8,17 @@ use mathlib.Core.List.{List, [], _∷_, _++_}
 use lib.ListN.{length, take}
 use lib.Dec.{ltb, lit≤}
 use borrow.Author.Tests.{le-ltb}
-use Rattle.packet.specs.declared.Front.{Front}
 use Rattle.packet.specs.declared.Frame.{Frame}
 use Rattle.packet.specs.declared.Form.{Form}
 use Rattle.packet.specs.declared.Form.the-variants.{Mrd32, Mrd64, Mwr32, Mwr64, CplNoData, CplData, InvReq, InvCpl, PageReq, PrgResp}
-use Rattle.packet.specs.Frames.{byte, num16At, num32At, num64At, decodeFront, decodeFrame, fourBytes, encodeFrame}
+use Rattle.packet.specs.Frames.{byte, num16At, num32At, num64At, attrAt, decodeFront, decodeFrame, fourBytes, encodeFrame}
 use Rattle.packet.specs.Forms.{payloadOffset}
-use Rattle.packet.specs.Kinds.{headIn, frontOf, bodyIn, wellFormed}
+use Rattle.packet.specs.Kinds.{bodyIn, wellFormed}
 use Rattle.packet.specs.Reading.{readForm}
 use Rattle.tlp.specs.Bytes.{Bytes}
+use Rattle.tlp.proofs.Fronts.{SoundFront, unmarked}
 
 -- each field of a frame fits the bits that it has in the bytes
-pub record SoundFront (f : Front) : Type 0 where
-  pub tc : f .tc < 8
-  pub marks : f .marks < 4
-  pub sender : f .sender < 65536
-
 pub record Sound (f : Frame) : Type 0 where
   pub byte0 : f .byte0 < 256
   pub front : SoundFront (f .front)
@@ -88,14 +83,21 @@ four-back n h =
     let e : n / 16777216 % 256 ≡ n / 16777216 = omega arith in
     rw e (omega arith)
 
-byte2-back : (a w : ℕ) → a < 4 → w < 1024 →
-    ((a % 4 * 4 + w / 256 % 4) / 64 ≡ 0)
-    × ((a % 4 * 4 + w / 256 % 4) / 4 % 4 ≡ a)
-    × ((a % 4 * 4 + w / 256 % 4) % 4 * 256 + w % 256 ≡ w)
-byte2-back a w ha hw = (omega arith, omega arith, omega arith)
+-- TC and the high bit of Attr in byte 1; the rest of Attr, AT and the high bits of Length in byte 2
+module _ (t o a w : ℕ) (ht : t < 8) (ho : o < 8) (ha : a < 4) (hw : w < 1024) where
+  abbrev byte1 : ℕ
+  byte1 = t % 8 * 16 + o / 4 % 2 * 4
 
-tc-back : (t : ℕ) → t < 8 → t % 8 * 16 / 16 % 8 ≡ t
-tc-back t h = omega arith
+  abbrev byte2 : ℕ
+  byte2 = o % 4 * 16 + a % 4 * 4 + w / 256 % 4
+
+  bytes12-back :
+      (byte1 / 16 % 8 ≡ t)
+      × (byte1 / 4 % 2 * 4 + byte2 / 16 % 4 ≡ o)
+      × (byte2 / 64 ≡ 0)
+      × (byte2 / 4 % 4 ≡ a)
+      × (byte2 % 4 * 256 + w % 256 ≡ w)
+  bytes12-back = (omega arith, omega arith, omega arith, omega arith, omega arith)
 
 two-back : (n : ℕ) → n < 65536 → n / 256 % 256 * 256 + n % 256 ≡ n
 two-back n h = omega arith
@@ -118,10 +120,6 @@ ending f d b =
       body = b;
     }
 
--- a front without TD and EP is made again from its head
-pub front-back : (g : Front) → g .marks ≡ 0 → frontOf (headIn g) ≡ g
-front-back g z = ap (λ (m : ℕ). record { tc = g .tc; marks = m; sender = g .sender }) (sym z)
-
 module _ (f : Frame) (s : Sound f) (z : f .front .marks ≡ 0) where
   -- what the first 12 bytes determine, whatever follows them
   first : (rest : List ℕ) →
@@ -129,8 +127,8 @@ module _ (f : Frame) (s : Sound f) (z : f .front .marks ≡ 0) where
       ≡ ending f (decodeFrame (take 12 (encodeFrame f) ++ rest) .dword12) (decodeFrame (take 12 (encodeFrame f) ++ rest) .body)
   unfolding decodeFrame
   first rest =
-      let b = byte2-back (f .at) (f .dwords) (s .at) (s .dwords) in
-      simp (tc-back (f .front .tc) (s .front .tc), b .0, b .1, b .2, two-back (f .front .sender) (s .front .sender), four-back (f .dword8) (s .dword8), front-back (f .front) z)
+      let b = bytes12-back (f .front .tc) (f .front .attr) (f .at) (f .dwords) (s .front .tc) (s .front .attr) (s .at) (s .dwords) in
+      simp (b .0, b .1, b .2, b .3, b .4, two-back (f .front .sender) (s .front .sender), four-back (f .dword8) (s .dword8), unmarked (f .front) z)
 
   abbrev Back : ℕ → List ℕ → Type 0
   Back n pay = upTo n (decodeFrame (take n (encodeFrame f) ++ pay)) ≡ upTo n f
@@ -167,6 +165,19 @@ module _ (f : Frame) (s : Sound f) (z : f .front .marks ≡ 0) where
   pub encodeFrame-back : (m : Form) (pay : List ℕ) → Back (payloadOffset m) pay
   encodeFrame-back m pay = by-fixed (λ (n : ℕ). Back n pay) (back12 pay) (back16 pay) (back24 pay) m
 
+-- Attr, whatever the other fields are
+attr-at : (t o a w : ℕ) → (t % 8 * 16 + o / 4 % 2 * 4) / 4 % 2 * 4 + (o % 4 * 16 + a % 4 * 4 + w / 256 % 4) / 16 % 4 ≡ o % 8
+attr-at t o a w =
+    let p : (t % 8 * 16 + o / 4 % 2 * 4) / 4 % 2 ≡ o / 4 % 2 = omega arith in
+    let q : (o % 4 * 16 + a % 4 * 4 + w / 256 % 4) / 16 % 4 ≡ o % 4 = omega arith in
+    rw (p, q) (omega arith)
+
+pub encoded-attr : (f : Frame) (m : Form) (pay : List ℕ)
+    → attrAt (take (payloadOffset m) (encodeFrame f) ++ pay) ≡ f .front .attr % 8
+encoded-attr f m pay =
+    let e = attr-at (f .front .tc) (f .front .attr) (f .at) (f .dwords) in
+    by-fixed (λ (n : ℕ). attrAt (take n (encodeFrame f) ++ pay) ≡ f .front .attr % 8) e e e m
+
 -- the number of bytes before the payload
 pub fixed-length : (m : Form) (f : Frame) → length (take (payloadOffset m) (encodeFrame f)) ≡ payloadOffset m
 fixed-length m f = by-fixed (λ (n : ℕ). length (take n (encodeFrame f)) ≡ n) refl refl refl m
@@ -196,12 +207,15 @@ words-lt x y h = omega arith
 marks-lt : (x : ℕ) → x < 256 → x / 64 < 4
 marks-lt x h = omega arith
 
+attr-lt : (x y : ℕ) → x / 4 % 2 * 4 + y / 16 % 4 < 8
+attr-lt x y = omega arith
+
 pub frame-sound : (b : List ℕ) → Bytes b → Sound (decodeFrame b)
 unfolding decodeFrame
 frame-sound b h =
     record {
       byte0 = h 0;
-      front = record { tc = mod-lt (byte b 1 / 16) (lit≤ tt); marks = marks-lt (byte b 2) (h 2); sender = num16-lt b h 4 };
+      front = record { tc = mod-lt (byte b 1 / 16) (lit≤ tt); attr = attr-lt (byte b 1) (byte b 2); marks = marks-lt (byte b 2) (h 2); sender = num16-lt b h 4 };
       at = mod-lt (byte b 2 / 4) (lit≤ tt);
       dwords = words-lt (byte b 2) (byte b 3) (h 3);
       byte6 = h 6;
@@ -259,11 +273,21 @@ module _ (a b c d : ℕ) (ha : a < 256) (hb : b < 256) (hc : c < 256) (hd : d < 
       let r : fromBytes a b c d / 16777216 ≡ a = omega arith in
       (rw r (omega arith), rw p (omega arith), rw q (omega arith), omega arith)
 
-byte2-is : (x y : ℕ) → x < 16 → y < 256 →
-    (x / 4 % 4 % 4 * 4 + (x % 4 * 256 + y) / 256 % 4 ≡ x) × ((x % 4 * 256 + y) % 256 ≡ y)
-byte2-is x y hx hy =
-    let p : (x % 4 * 256 + y) / 256 ≡ x % 4 = omega arith in
-    (rw p (omega arith), omega arith)
+-- bytes 1 to 3, encoded again
+module _ (x y z : ℕ) (hx : x / 16 % 8 * 16 + x / 4 % 2 * 4 ≡ x) (hy : y < 64) (hz : z < 256) where
+  abbrev attr : ℕ
+  attr = x / 4 % 2 * 4 + y / 16 % 4
+
+  bytes12-is :
+      (x / 16 % 8 % 8 * 16 + attr / 4 % 2 * 4 ≡ x)
+      × (attr % 4 * 16 + y / 4 % 4 % 4 * 4 + (y % 4 * 256 + z) / 256 % 4 ≡ y)
+      × ((y % 4 * 256 + z) % 256 ≡ z)
+  bytes12-is =
+      let p : (y % 4 * 256 + z) / 256 ≡ y % 4 = omega arith in
+      let q : attr / 4 % 2 ≡ x / 4 % 2 = omega arith in
+      let r : attr % 4 ≡ y / 16 % 4 = omega arith in
+      let s : x / 16 % 8 % 8 ≡ x / 16 % 8 = omega arith in
+      (rw (q, s) hx, rw (p, r) (omega arith), omega arith)
 
 two-is : (x y : ℕ) → x < 256 → y < 256 → ((x * 256 + y) / 256 % 256 ≡ x) × ((x * 256 + y) % 256 ≡ y)
 two-is x y hx hy =
@@ -274,11 +298,10 @@ pub halves-is : (x y : ℕ) → y < 2 ^ 32 → ((x * 2 ^ 32 + y) / 2 ^ 32 ≡ x)
 halves-is x y h = (omega arith, omega arith)
 
 -- bytes whose first DWORD has no ignored bit set, and neither TD nor EP, are encoded again from their frame
-module _ (b : List ℕ) (h : Bytes b) (h1 : byte b 1 / 16 % 8 * 16 ≡ byte b 1) (h2 : byte b 2 < 16) where
+module _ (b : List ℕ) (h : Bytes b) (h1 : byte b 1 / 16 % 8 * 16 + byte b 1 / 4 % 2 * 4 ≡ byte b 1) (h2 : byte b 2 < 64) where
   encodeFrame-full : encodeFrame (full b) ≡ row 24 (byte b)
   encodeFrame-full =
-      let t : byte b 1 / 16 % 8 % 8 ≡ byte b 1 / 16 % 8 = omega arith in
-      let p = byte2-is (byte b 2) (byte b 3) h2 (h 3) in
+      let p = bytes12-is (byte b 1) (byte b 2) (byte b 3) h1 h2 (h 3) in
       let q = two-is (byte b 4) (byte b 5) (h 4) (h 5) in
       let x = halves-is (num32At b 16) (num32At b 20) (num32-lt b h 20) in
       let b8 = four-is (byte b 8) (byte b 9) (byte b 10) (byte b 11) (h 8) (h 9) (h 10) (h 11) in
@@ -286,10 +309,9 @@ module _ (b : List ℕ) (h : Bytes b) (h1 : byte b 1 / 16 % 8 * 16 ≡ byte b 1)
       let b16 = four-is (byte b 16) (byte b 17) (byte b 18) (byte b 19) (h 16) (h 17) (h 18) (h 19) in
       let b20 = four-is (byte b 20) (byte b 21) (byte b 22) (byte b 23) (h 20) (h 21) (h 22) (h 23) in
       simp (
-        t,
-        h1,
         p .0,
         p .1,
+        p .2,
         q .0,
         q .1,
         x .0,

@@ -1,9 +1,10 @@
 -- The laws of packets that the layers above use, so that they need not unfold the definitions.
-use mathlib.Core.Path.{_≡_, refl, ap, _∙_}
+use mathlib.Core.Path.{_≡_, refl, sym, ap, _∙_}
 use mathlib.Core.Bool.{Bool, true, false, not}
 use mathlib.Core.List.{List, []}
-use Prim.Native.Nat.{ℕ, _/_, _^_, _<_}
+use Prim.Native.Nat.{ℕ, _/_, _%_, _^_, _<_}
 use native.Mathlib.Omega.{arith}
+use native.Mathlib.Nat.{mod-eq-of-lt}
 use lib.Dec.{eqb}
 use lib.ListN.{length, take, drop, length-append, length-drop}
 use lib.Seq.{take-at, drop-at}
@@ -12,15 +13,16 @@ use Rattle.lemmas.proofs.Cases.{byCases, impossible}
 use Rattle.packet.specs.declared.Packet.{Packet}
 use Rattle.packet.specs.declared.Completion.{Completion}
 use Rattle.packet.specs.declared.InvalidateRequest.{InvalidateRequest}
+use Rattle.packet.specs.declared.Front.{Front}
 use Rattle.packet.specs.declared.Frame.{Frame}
 use Rattle.packet.specs.declared.Form.{Form}
 use Rattle.packet.specs.declared.Form.the-variants.{Mrd32, Mrd64, Mwr32, Mwr64, CplNoData, CplData, InvReq, InvCpl, PageReq, PrgResp}
 use Rattle.packet.specs.declared.Body.the-variants.{Cpl, Inv}
 use Rattle.packet.specs.Numbers.{ok, refusal}
 use Rattle.packet.proofs.Laws.{accepted}
-use Rattle.packet.specs.Frames.{decodeFrame}
+use Rattle.packet.specs.Frames.{attrAt, decodeFrame}
 use Rattle.packet.specs.Forms.{payloadOffset}
-use Rattle.packet.specs.Kinds.{codesSize, allowedBody, bodyIn, payloadLength}
+use Rattle.packet.specs.Kinds.{codesSize, allowedBody, bodyIn, payloadLength, formOf, attrIn, attrBits, frontOf, packetFrame}
 use Rattle.packet.specs.Reading.{reading, payloadIn}
 use Rattle.packet.specs.Writing.{writing, bytesOf, bufferAfter}
 use Rattle.ranges.specs.declared.Size.{Size}
@@ -28,18 +30,19 @@ use Rattle.ranges.specs.declared.Size.the-variants.{Exponent, NoSize}
 use Rattle.ranges.specs.Size.{sizeOf}
 use Rattle.ranges.proofs.Laws.{no-size}
 use Rattle.tlp.specs.Bytes.{Bytes}
-use Rattle.tlp.proofs.Frames.{Sound, frame-sound}
+use Rattle.tlp.proofs.Fronts.{attr-lt, frame-front}
+use Rattle.tlp.proofs.Frames.{Sound, frame-sound, encoded-attr}
 use Rattle.tlp.specs.Fields.{TypedBody, Typed}
-use Rattle.tlp.proofs.RoundTrips.{written-reads, written-payload, written-length, read-writes, told, payload-is}
+use Rattle.tlp.proofs.RoundTrips.{written-reads, written-payload, written-length, read-writes, taken, told, payload-is}
 
 -- ---- a packet that was sent is at the start of the buffer
 
-module _ (p : Packet) (payload out : List ℕ) (n : ℕ) (ty : Typed p) (e : writing p (length payload) (length out) ≡ ok n) where
+module _ (p : Packet) (payload out : List ℕ) (n : ℕ) (e : writing p (length payload) (length out) ≡ ok n) where
   abbrev sent : List ℕ
   sent = bufferAfter (writing p (length payload) (length out)) (bytesOf p payload) out
 
   long : length (bytesOf p payload) ≡ n
-  long = written-length p payload (length out) n ty e
+  long = written-length p payload (length out) n e
 
   pub sent-bytes : take n sent ≡ bytesOf p payload
   sent-bytes = rw e (take-at (bytesOf p payload) (drop (length (bytesOf p payload)) out) n long)
@@ -52,11 +55,20 @@ module _ (p : Packet) (payload out : List ℕ) (n : ℕ) (ty : Typed p) (e : wri
   sent-length = rw e (length-append (bytesOf p payload) _ ∙ rw (long, length-drop n out) (omega (arith, accepted p (length payload) (length out) n e .fits)))
 
   -- and it is read as that packet
-  pub sent-reads : reading (take n sent) ≡ ok p
-  sent-reads = rw sent-bytes (written-reads p payload (length out) n ty e)
+  module _ (ty : Typed p) where
+    pub sent-reads : reading (take n sent) ≡ ok p
+    sent-reads = rw sent-bytes (written-reads p payload (length out) n ty e)
 
-  pub sent-payload : payloadIn (take n sent) ≡ payload
-  sent-payload = rw sent-bytes (written-payload p payload (length out) n ty e)
+    pub sent-payload : payloadIn (take n sent) ≡ payload
+    sent-payload = rw sent-bytes (written-payload p payload (length out) n ty e)
+
+-- its Attr is that of the packet, whether or not it can be written
+pub written-attr : (p : Packet) (payload : List ℕ) → attrAt (bytesOf p payload) ≡ attrBits (p .head .attr)
+unfolding bytesOf
+written-attr p payload =
+    encoded-attr (packetFrame (frontOf (p .head)) (p .body)) (formOf (p .body)) payload
+    ∙ ap (λ (f : Front). f .attr % 8) (frame-front (frontOf (p .head)) (p .body))
+    ∙ mod-eq-of-lt (attr-lt (p .head .attr))
 
 -- no bytes are not a packet
 pub nothing-reads : reading [] ≡ refusal 1
@@ -95,6 +107,11 @@ from-12 InvReq f c q = impossible cc
 from-12 InvCpl f c q = impossible cc
 from-12 PageReq f c q = impossible cc
 from-12 PrgResp f c q = impossible cc
+
+-- its Attr is what stands in the bytes
+pub read-attr : (b : List ℕ) (p : Packet) → reading b ≡ ok p → p .head .attr ≡ attrIn (attrAt b)
+unfolding decodeFrame
+read-attr b p e = ap (λ (x : Packet). x .head .attr) (sym (taken b p e .whole))
 
 module _ (b : List ℕ) (p : Packet) (h : Bytes b) (e : reading b ≡ ok p) where
   pub read-typed : Typed p

@@ -1,3 +1,4 @@
+pub mod Fronts
 pub mod Frames
 pub mod Fields
 pub mod Masks

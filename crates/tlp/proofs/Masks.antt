@@ -2,7 +2,7 @@
 -- masked by the frame of the masks.
 use Prim.Native.Nat.{ℕ, zero, suc, _+_, _*_, _/_, _%_, _<_, _≤_}
 use native.Mathlib.Omega.{arith}
-use native.Mathlib.Nat.{le-refl, not-suc-le-zero, le-of-suc-le-suc}
+use native.Mathlib.Nat.{le-refl, mod-lt, not-suc-le-zero, le-of-suc-le-suc}
 use mathlib.Core.Path.{_≡_, refl, sym, ap}
 use mathlib.Core.Bool.{cond}
 use mathlib.Core.List.{List, [], _∷_}
@@ -12,7 +12,7 @@ use lib.Dec.{ltb, lit≤}
 use borrow.Author.Tests.{ltb-false}
 use Rattle.packet.specs.declared.Front.{Front}
 use Rattle.packet.specs.declared.Frame.{Frame}
-use Rattle.packet.specs.Frames.{byte, num16At, num32At, num64At, decodeFrame}
+use Rattle.packet.specs.Frames.{byte, num16At, num32At, num64At, attrAt, decodeFrame}
 use Rattle.packet.specs.Normal.{masked}
 use Rattle.lemmas.proofs.Cases.{byCases}
 use Rattle.tlp.specs.Bytes.{Bytes}
@@ -73,7 +73,12 @@ module _ (ms b : List ℕ) (hm : Bytes ms) (hb : Bytes b) where
 -- the bitwise AND of two frames
 abbrev meetFront : Front → Front → Front
 meetFront f g =
-    record { tc = bitAnd (f .tc) (g .tc); marks = bitAnd (f .marks) (g .marks); sender = bitAnd (f .sender) (g .sender) }
+    record {
+      tc = bitAnd (f .tc) (g .tc);
+      attr = bitAnd (f .attr) (g .attr);
+      marks = bitAnd (f .marks) (g .marks);
+      sender = bitAnd (f .sender) (g .sender);
+    }
 
 abbrev pub meet : Frame → Frame → Frame
 meet f g =
@@ -104,6 +109,11 @@ module _ (ms b : List ℕ) (hm : Bytes ms) (hb : Bytes b) (long : 12 ≤ length 
   tc-meet : bitAnd (byte b 1) (byte ms 1) / 16 % 8 ≡ bitAnd (byte b 1 / 16 % 8) (byte ms 1 / 16 % 8)
   tc-meet = rw (and-shr (byte b 1) (byte ms 1) 4) (and-mod (byte b 1 / 16) (byte ms 1 / 16) 3)
 
+  attr-meet : bitAnd (byte b 1) (byte ms 1) / 4 % 2 * 4 + bitAnd (byte b 2) (byte ms 2) / 16 % 4 ≡ bitAnd (attrAt b) (attrAt ms)
+  attr-meet =
+      rw (and-shr (byte b 1) (byte ms 1) 2, and-mod (byte b 1 / 4) (byte ms 1 / 4) 1, and-shr (byte b 2) (byte ms 2) 4, and-mod (byte b 2 / 16) (byte ms 2 / 16) 2)
+      (sym (and-block 2 (byte b 1 / 4 % 2) (byte ms 1 / 4 % 2) (byte b 2 / 16 % 4) (byte ms 2 / 16 % 4) (mod-lt (byte b 2 / 16) (lit≤ tt)) (mod-lt (byte ms 2 / 16) (lit≤ tt))))
+
   at-meet : bitAnd (byte b 2) (byte ms 2) / 4 % 4 ≡ bitAnd (byte b 2 / 4 % 4) (byte ms 2 / 4 % 4)
   at-meet = rw (and-shr (byte b 2) (byte ms 2) 2) (and-mod (byte b 2 / 4) (byte ms 2 / 4) 2)
 
@@ -131,6 +141,7 @@ module _ (ms b : List ℕ) (hm : Bytes ms) (hb : Bytes b) (long : 12 ≤ length 
         at-i 6 (lit≤ tt),
         at-i 7 (lit≤ tt),
         tc-meet,
+        attr-meet,
         at-meet,
         words-meet,
         and-shr (byte b 2) (byte ms 2) 6,

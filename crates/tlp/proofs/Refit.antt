@@ -17,7 +17,8 @@ use Rattle.packet.specs.declared.Choice.the-variants.{Listed, Unlisted}
 use Rattle.packet.specs.Forms.{choose, byte0Of, payloadOffset, packetLength, byteEnables}
 use Rattle.packet.specs.Kinds.{headIn, address64In, trIn, memIn, cplIn, bodyIn, accessPayloadLength, accessForm, accessTag, outcomeForm, outcomeDwords, outcomeStatus, outcomePayloadLength, outcomeInRange, wellFormedMem, wellFormedReadRequest, wellFormed, bodyInRange, payloadLength, needs64Bits, formOf, bitOf, addressDword8, addressDword12, frontOf, packetFrame}
 use Rattle.lemmas.proofs.Cases.{byCases, and-both}
-use Rattle.tlp.proofs.Frames.{Sound, front-back, halves-is}
+use Rattle.tlp.proofs.Fronts.{bit-of, front-back}
+use Rattle.tlp.proofs.Frames.{Sound, halves-is}
 use Rattle.tlp.proofs.Tidy.{keeping, tidyStatus, tidyTarget, tidy}
 
 -- ---- what selects a form
@@ -59,14 +60,6 @@ module _ (b0 b7 : ℕ) where
       tt))))))))
 
 -- ---- flags and addresses
-
-bit-is : (k : ℕ) → k < 2 → bitOf (eqb k 1) ≡ k
-bit-is zero h = refl
-bit-is (suc zero) h = refl
-bit-is (suc (suc k)) h = absurd (omega arith)
-
-bit-of : (x : ℕ) → bitOf (eqb (x % 2) 1) ≡ x % 2
-bit-of x = let h : x % 2 < 2 = omega arith in bit-is (x % 2) h
 
 at-half : (k : ℕ) → k < 2 → bitOf (eqb (k * 2) 2) * 2 ≡ k * 2
 at-half zero h = refl
@@ -165,7 +158,7 @@ module _ (f : Frame) (s : Sound f) (z : f .front .marks ≡ 0) where
   tr m a body form clean load b0 e b7 =
       record {
         form = rw (body, form);
-        frame = rw (body, clean, b0, b7, front-back (f .front) z, e, form, bit-of a, page-twice a);
+        frame = rw (body, clean, b0, b7, front-back (f .front) z (s .front .attr), e, form, bit-of a, page-twice a);
         within = rw (body, words-fit, page-clean a);
         load = rw (body, load);
       }
@@ -181,7 +174,7 @@ module _ (f : Frame) (s : Sound f) (z : f .front .marks ≡ 0) where
   mem m access a body form clean load b0 e b7 =
       record {
         form = rw (body, form);
-        frame = rw (body, clean, b0, b7, front-back (f .front) z, form, at-is (f .at) (s .at) e);
+        frame = rw (body, clean, b0, b7, front-back (f .front) z (s .front .attr), form, at-is (f .at) (s .at) e);
         within = rw (body, words-fit, mem-clean a);
         load = rw (body, load);
       }
@@ -213,7 +206,7 @@ module _ (f : Frame) (s : Sound f) (z : f .front .marks ≡ 0) where
       let low : f .dword8 % 128 < 128 = omega arith in
       record {
         form = rw (body, form);
-        frame = simp (body, clean, b0, front-back (f .front) z, form, e, x .0, x .1, x .3, target-is (f .dword8));
+        frame = simp (body, clean, b0, front-back (f .front) z (s .front .attr), form, e, x .0, x .1, x .3, target-is (f .dword8));
         within = rw (body, lt-ltb n 4096 (x .2), lt-ltb (f .dword8 % 128) 128 low, fits);
         load = rw (body, load);
       }
@@ -224,7 +217,7 @@ module _ (f : Frame) (s : Sound f) (z : f .front .marks ≡ 0) where
       let low : f .byte6 % 32 < 32 = omega arith in
       record {
         form = refl;
-        frame = simp (b0, b7, front-back (f .front) z, e, bit-of (f .body / 2048), size-is (f .body));
+        frame = simp (b0, b7, front-back (f .front) z (s .front .attr), e, bit-of (f .body / 2048), size-is (f .body));
         within = simp (lt-ltb (f .byte6 % 32) 32 low, page-clean (f .body));
         load = simp e;
       }
@@ -235,7 +228,7 @@ module _ (f : Frame) (s : Sound f) (z : f .front .marks ≡ 0) where
       let low : f .dword8 % 8 < 8 = omega arith in
       record {
         form = refl;
-        frame = simp (b0, b7, front-back (f .front) z);
+        frame = simp (b0, b7, front-back (f .front) z (s .front .attr));
         within = simp (lt-ltb (f .dword8 % 8) 8 low);
         load = refl;
       }
@@ -248,7 +241,7 @@ module _ (f : Frame) (s : Sound f) (z : f .front .marks ≡ 0) where
       let g = halves-is (f .dword8) (f .dword12) (s .dword12) in
       record {
         form = refl;
-        frame = simp (b0, b7, front-back (f .front) z, bit-of (a / 4), bit-of (a / 2), bit-of a, page-is a, g .0, g .1);
+        frame = simp (b0, b7, front-back (f .front) z (s .front .attr), bit-of (a / 4), bit-of (a / 2), bit-of a, page-is a, g .0, g .1);
         within = simp (page-clean a, lt-ltb (a / 8 % 512) 512 low);
         load = refl;
       }
@@ -261,7 +254,7 @@ module _ (f : Frame) (s : Sound f) (z : f .front .marks ≡ 0) where
       let low : d % 512 < 512 = omega arith in
       record {
         form = refl;
-        frame = simp (b0, b7, front-back (f .front) z, code-is d);
+        frame = simp (b0, b7, front-back (f .front) z (s .front .attr), code-is d);
         within = simp (lt-ltb (d / 4096 % 16) 16 hi, lt-ltb (d % 512) 512 low);
         load = refl;
       }

@@ -9,6 +9,7 @@ use lib.Seq.{drop-at}
 use lib.Dec.{ltb, eqb}
 use borrow.Author.Tests.{ltb-false, eqb-true, lt-ltb, le-ltb, eq-eqb}
 use Rattle.packet.specs.declared.Packet.{Packet}
+use Rattle.packet.specs.declared.Front.{Front}
 use Rattle.packet.specs.declared.Frame.{Frame}
 use Rattle.packet.specs.declared.Form.{Form}
 use Rattle.packet.specs.declared.Choice.{Choice}
@@ -22,9 +23,10 @@ use Rattle.packet.specs.Writing.{writing, bytesOf, bufferAfter}
 use Rattle.packet.specs.Normal.{maskOf, masked, normalAs, normal}
 use Rattle.packet.proofs.Laws.{check-passed, refuse-passed, ok-injective, Accepted, accepted}
 use Rattle.tlp.specs.Bytes.{Bytes}
+use Rattle.tlp.proofs.Fronts.{frame-front}
 use Rattle.tlp.proofs.Frames.{upTo, read-upTo, encodeFrame-back, fixed-length, fixed-low, frame-sound, encodeFrame-upTo}
 use Rattle.tlp.specs.Fields.{Typed}
-use Rattle.tlp.proofs.Fields.{Framed, fields, longest}
+use Rattle.tlp.proofs.Fields.{Framed, framed-packet, fields, longest}
 use Rattle.tlp.proofs.Masks.{masked-length, masked-drop}
 use Rattle.tlp.proofs.Tidy.{mask, read-tidy, tidy-frame, under-0, under-1, under-2, under-7, under-bytes}
 use Rattle.tlp.proofs.Refit.{chosen-by, Refit, refit}
@@ -56,23 +58,27 @@ read-whole : (m : Form) (f : Frame) (n : ℕ) → n ≡ packetLength m (f .dword
 unfolding readForm
 read-whole m f n l z s a = rw (eq-eqb n (packetLength m (f .dwords)) l, eq-eqb (f .front .marks) 0 z, s, a)
 
-module _ (p : Packet) (payload : List ℕ) (room n : ℕ) (ty : Typed p) (e : writing p (length payload) room ≡ ok n) where
-  pub written-length : length (bytesOf p payload) ≡ n
-  unfolding bytesOf
-  written-length = rw (length-append, fixed-length) (accepted p (length payload) room n e .long)
+pub written-length : (p : Packet) (payload : List ℕ) (room n : ℕ) → writing p (length payload) room ≡ ok n
+    → length (bytesOf p payload) ≡ n
+unfolding bytesOf
+written-length p payload room n e = rw (length-append, fixed-length) (accepted p (length payload) room n e .long)
 
+module _ (p : Packet) (payload : List ℕ) (room n : ℕ) (ty : Typed p) (e : writing p (length payload) room ≡ ok n) where
   passed : Accepted p (length payload) room n
   passed = accepted p (length payload) room n e
 
   seated : Framed (p .head) (p .body)
   seated = fields (p .head) (passed .tc) (ty .sender) (p .body) (passed .body) (ty .body)
 
+  unmarked : packetFrame (frontOf (p .head)) (p .body) .front .marks ≡ 0
+  unmarked = ap (λ (f : Front). f .marks) (frame-front (frontOf (p .head)) (p .body))
+
   -- the first fields of a written packet are those of its frame
   upTo-back : upTo (payloadOffset (formOf (p .body))) (decodeFrame (bytesOf p payload))
       ≡ upTo (payloadOffset (formOf (p .body))) (packetFrame (frontOf (p .head)) (p .body))
   unfolding bytesOf
   upTo-back =
-      encodeFrame-back (packetFrame (frontOf (p .head)) (p .body)) (seated .sound) (seated .marks) (formOf (p .body)) payload
+      encodeFrame-back (packetFrame (frontOf (p .head)) (p .body)) (seated .sound) unmarked (formOf (p .body)) payload
 
   -- bytes 0 and 7 select the form of the packet
   pub kind-of-written : choose (byte (bytesOf p payload) 0) (byte (bytesOf p payload) 7) ≡ Listed (formOf (p .body))
@@ -89,16 +95,16 @@ module _ (p : Packet) (payload : List ℕ) (room n : ℕ) (ty : Typed p) (e : wr
       let f = packetFrame (frontOf (p .head)) (p .body) in
       let low = fixed-low m in
       let high = longest (p .head .tc) (p .body) (passed .allows) in
-      let len : length b ≡ payloadOffset m + payloadLength (p .body) = written-length ∙ sym (passed .long) ∙ ap (λ (k : ℕ). payloadOffset m + k) (passed .fills) in
+      let len : length b ≡ payloadOffset m + payloadLength (p .body) = written-length p payload room n e ∙ sym (passed .long) ∙ ap (λ (k : ℕ). payloadOffset m + k) (passed .fills) in
       let h : 12 ≤ length b = omega arith in
       let k : length b ≤ 144 = omega arith in
-      let same : packetIn m f ≡ p = rw (seated .head, seated .back) in
+      let same : packetIn m f ≡ p = framed-packet (p .head) (p .body) seated in
       read-by-frame b h k
       ∙ read-by-form b m (length b) kind-of-written
       ∙ sym (read-upTo m (decodeFrame b) (length b))
       ∙ ap (λ (x : Frame). readForm m x (length b)) upTo-back
       ∙ read-upTo m f (length b)
-      ∙ read-whole m f (length b) (len ∙ sym (seated .long)) (seated .marks) (seated .shape) (ap allowed same ∙ passed .allows)
+      ∙ read-whole m f (length b) (len ∙ sym (seated .long)) unmarked (seated .shape) (ap allowed same ∙ passed .allows)
       ∙ ap ok same
 
   pub written-payload : payloadIn (bytesOf p payload) ≡ payload
@@ -107,7 +113,7 @@ module _ (p : Packet) (payload : List ℕ) (room n : ℕ) (ty : Typed p) (e : wr
       let m = formOf (p .body) in
       let f = packetFrame (frontOf (p .head)) (p .body) in
       let low = fixed-low m in
-      let l = written-length in
+      let l = written-length p payload room n e in
       let h : 12 ≤ length (bytesOf p payload) = omega (arith, passed .long) in
       rw (le-ltb (length (bytesOf p payload)) 12 h, kind-of-written) (drop-at (take (payloadOffset m) (encodeFrame f)) payload (payloadOffset m) (fixed-length m f))
 

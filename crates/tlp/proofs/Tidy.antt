@@ -98,6 +98,19 @@ module _ (x : ℕ) (h : x < 2 ^ 32) where
 mask-size : (x : ℕ) → x < 2 ^ 64 → bitAnd x 0xFFFFFFFFFFFFF800 ≡ x / 2048 * 2048
 mask-size x h = parted 53 11 0 x (lit≤ tt) ∙ omega arith
 
+-- TC and the high bit of Attr
+mask-front : (x : ℕ) → bitAnd x 0x74 ≡ x / 16 % 8 * 16 + x / 4 % 2 * 4
+mask-front x =
+    ap (λ (y : ℕ). bitAnd y 0x74) (sym (div-add-mod' x 16))
+    ∙ and-block 4 (x / 16) 7 (x % 16) 4 (mod-lt x (lit≤ tt)) (lit≤ tt)
+    ∙ ap₂ (λ (y z : ℕ). y * 16 + z) (and-mask (x / 16) 3) (parted 1 2 0 (x % 16) (lit≤ tt) ∙ omega arith)
+
+front-kept : (t o : ℕ) → t < 8 → o < 2 → (t * 16 + o * 4) / 16 % 8 * 16 + (t * 16 + o * 4) / 4 % 2 * 4 ≡ t * 16 + o * 4
+front-kept t o ht ho =
+    let p : (t * 16 + o * 4) / 16 % 8 ≡ t = omega arith in
+    let q : (t * 16 + o * 4) / 4 % 2 ≡ o = omega arith in
+    rw (p, q)
+
 mask-status : (x : ℕ) → x < 256 → bitAnd x 0xEF ≡ tidyStatus x
 mask-status x h = parted 3 5 4 x (lit≤ tt) ∙ omega arith
 
@@ -108,6 +121,9 @@ module _ (f : Frame) (s : Sound f) where
 
   all-tc : bitAnd (f .front .tc) 7 ≡ f .front .tc
   all-tc = whole 3 (f .front .tc) (s .front .tc)
+
+  all-attr : bitAnd (f .front .attr) 7 ≡ f .front .attr
+  all-attr = whole 3 (f .front .attr) (s .front .attr)
 
   all-marks : bitAnd (f .front .marks) 3 ≡ f .front .marks
   all-marks = whole 2 (f .front .marks) (s .front .marks)
@@ -133,7 +149,7 @@ module _ (f : Frame) (s : Sound f) where
   all12 : bitAnd (f .dword12) 0xFFFFFFFF ≡ f .dword12
   all12 = whole 32 (f .dword12) (s .dword12)
 
-  ruleset alls = (all0, all-tc, all-marks, all-at, all-words, all-sender, all6, all7, all8, all12, and-zero-r)
+  ruleset alls = (all0, all-tc, all-attr, all-marks, all-at, all-words, all-sender, all6, all7, all8, all12, and-zero-r)
 
   pub tidy-is : (m : Form) (tr : Bool) → meet f (decodeFrame (maskOf m tr)) ≡ tidy m tr f
   unfolding decodeFrame maskOf tidy
@@ -164,34 +180,30 @@ bytes-below [] e i = lit≤ tt
 bytes-below (x ∷ xs) e zero = ltb-true x 256 (and-both (ltb x 256) (below xs) e .0)
 bytes-below (x ∷ xs) e (suc i) = bytes-below xs (and-both (ltb x 256) (below xs) e .1) i
 
--- what the masks of every form have in common: n bytes; only TC in byte 1, no bit of 5:4
--- in byte 2, all of bytes 0 and 7
+-- what the masks of every form have in common: n bytes; only TC and Attr in byte 1, all of bytes 0 and 7
 pub record Mask (n : ℕ) (ms : List ℕ) : Type 0 where
   pub bytes : Bytes ms
   pub long : length ms ≡ n
   pub byte0 : byte ms 0 ≡ 0xFF
-  pub byte1 : byte ms 1 ≡ 0x70
-  pub byte2 : byte ms 2 % 64 ≤ 15
+  pub byte1 : byte ms 1 ≡ 0x74
   pub byte7 : byte ms 7 ≡ 0xFF
 
 abbrev judged : ℕ → List ℕ → Bool
 judged n ms =
     below ms
-    && eqb (length ms) n && eqb (byte ms 0) 0xFF && eqb (byte ms 1) 0x70 && leb (byte ms 2 % 64) 15 && eqb (byte ms 7) 0xFF
+    && eqb (length ms) n && eqb (byte ms 0) 0xFF && eqb (byte ms 1) 0x74 && eqb (byte ms 7) 0xFF
 
 judge : (n : ℕ) (ms : List ℕ) → judged n ms ≡ true → Mask n ms
 judge n ms e =
-    let a = and-both (below ms && eqb (length ms) n && eqb (byte ms 0) 0xFF && eqb (byte ms 1) 0x70 && leb (byte ms 2 % 64) 15) (eqb (byte ms 7) 0xFF) e in
-    let b = and-both (below ms && eqb (length ms) n && eqb (byte ms 0) 0xFF && eqb (byte ms 1) 0x70) (leb (byte ms 2 % 64) 15) (a .0) in
-    let c = and-both (below ms && eqb (length ms) n && eqb (byte ms 0) 0xFF) (eqb (byte ms 1) 0x70) (b .0) in
-    let d = and-both (below ms && eqb (length ms) n) (eqb (byte ms 0) 0xFF) (c .0) in
-    let f = and-both (below ms) (eqb (length ms) n) (d .0) in
+    let a = and-both (below ms && eqb (length ms) n && eqb (byte ms 0) 0xFF && eqb (byte ms 1) 0x74) (eqb (byte ms 7) 0xFF) e in
+    let b = and-both (below ms && eqb (length ms) n && eqb (byte ms 0) 0xFF) (eqb (byte ms 1) 0x74) (a .0) in
+    let c = and-both (below ms && eqb (length ms) n) (eqb (byte ms 0) 0xFF) (b .0) in
+    let d = and-both (below ms) (eqb (length ms) n) (c .0) in
     record {
-      bytes = bytes-below ms (f .0);
-      long = eqb-true (length ms) n (f .1);
-      byte0 = eqb-true (byte ms 0) 0xFF (d .1);
-      byte1 = eqb-true (byte ms 1) 0x70 (c .1);
-      byte2 = leb-true (byte ms 2 % 64) 15 (b .1);
+      bytes = bytes-below ms (d .0);
+      long = eqb-true (length ms) n (d .1);
+      byte0 = eqb-true (byte ms 0) 0xFF (c .1);
+      byte1 = eqb-true (byte ms 1) 0x74 (b .1);
       byte7 = eqb-true (byte ms 7) 0xFF (a .1);
     }
 
@@ -310,21 +322,14 @@ module _ (b : List ℕ) (h : Bytes b) (m : Form) (t : Bool) where
   under-7 = under-at 7 (lit≤ tt) ∙ ap (bitAnd (byte b 7)) (mask m t .byte7) ∙ whole 8 (byte b 7) (h 7)
 
   -- no ignored bit is set in the first DWORD
-  pub under-1 : byte under 1 / 16 % 8 * 16 ≡ byte under 1
+  pub under-1 : byte under 1 / 16 % 8 * 16 + byte under 1 / 4 % 2 * 4 ≡ byte under 1
   under-1 =
-      let e : byte under 1 ≡ byte b 1 / 16 % 8 * 16 + byte b 1 % 16 % 1 = under-at 1 (lit≤ tt) ∙ ap (bitAnd (byte b 1)) (mask m t .byte1) ∙ parted 3 4 0 (byte b 1) (lit≤ tt) in
-      rw e (omega arith)
+      let x = byte b 1 in
+      let e : byte under 1 ≡ x / 16 % 8 * 16 + x / 4 % 2 * 4 = under-at 1 (lit≤ tt) ∙ ap (bitAnd x) (mask m t .byte1) ∙ mask-front x in
+      rw e (front-kept (x / 16 % 8) (x / 4 % 2) (mod-lt (x / 16) (lit≤ tt)) (mod-lt (x / 4) (lit≤ tt)))
 
-  pub under-2 : byte b 2 / 64 ≡ 0 → byte under 2 < 16
-  under-2 z =
-      let x = byte b 2 in
-      let y = byte (maskOf m t) 2 in
-      let e = under-at 2 (lit≤ tt) in
-      let p = and-le-l x y in
-      let q = and-mod x y 6 in
-      let r = and-le-r (x % 64) (y % 64) in
-      let s = mask m t .byte2 in
-      rw e (omega arith)
+  pub under-2 : byte b 2 / 64 ≡ 0 → byte under 2 < 64
+  under-2 z = let e = under-at 2 (lit≤ tt) in let p = and-le-l (byte b 2) (byte (maskOf m t) 2) in rw e (omega arith)
 
   pub under-bytes : Bytes under
   under-bytes i = let p = masked-le (maskOf m t) b i in let q = h i in omega arith

@@ -1,5 +1,6 @@
 // The form and the frame of a packet, kind by kind.
 use packet::Access;
+use packet::Attr;
 use packet::Body;
 use packet::Completion;
 use packet::Form;
@@ -20,7 +21,7 @@ ghost use Prim.Native.Nat.{_≤_};
 ghost use Rattle.packet.specs.declared.Body.the-variants.{Tr, Mem, Cpl, Inv, Ic, Prq, Prs};
 ghost use Rattle.packet.specs.declared.Form.the-variants.{Mrd32, Mrd64, Mwr32, Mwr64};
 ghost use Rattle.packet.specs.Forms.{byte0Of};
-ghost use Rattle.packet.specs.Kinds.{needs64Bits, accessForm, outcomeForm, formOf, bitOf, addressDword8, addressDword12, accessTag, outcomeDwords, outcomeStatus, frontOf, packetFrame};
+ghost use Rattle.packet.specs.Kinds.{needs64Bits, accessForm, outcomeForm, formOf, bitOf, addressDword8, addressDword12, accessTag, outcomeDwords, outcomeStatus, attrBits, frontOf, packetFrame};
 
 fn bit(b: bool) -> u8
     ensures { λ r. ⌜ (r ≡ bitOf b) × (r ≤ 1) ⌝ }
@@ -271,12 +272,20 @@ fn prs(front: Front, s: PrgResponse) -> Frame
     }
 }
 
+fn attr_bits(a: Attr) -> u8
+    ensures { λ r. ⌜ r ≡ attrBits a ⌝ }
+{
+    bit(a.ido) * 4 + bit(a.relaxed) * 2 + bit(a.nosnoop)
+}
+
 // The front of a packet with this head.
 fn front(h: Head) -> Front
     ensures { λ r. ⌜ r ≡ frontOf h ⌝ }
 {
+    let attr = h.attr;
     Front {
         tc: h.tc,
+        attr: attr_bits(attr),
         marks: 0,
         sender: h.sender,
     }

@@ -27,8 +27,8 @@ fn encode_frame(f: Frame) -> [u8; 24]
     let front = f.front;
     [
         f.byte0,
-        front.tc % 8 * 16,
-        f.at % 4 * 4 + (f.dwords / 256 % 4) as u8,
+        front.tc % 8 * 16 + front.attr / 4 % 2 * 4,
+        front.attr % 4 * 16 + f.at % 4 * 4 + (f.dwords / 256 % 4) as u8,
         (f.dwords % 256) as u8,
         (front.sender / 256 % 256) as u8,
         (front.sender % 256) as u8,

@@ -5,10 +5,9 @@ use lib.Seq.{length-take-le}
 use borrow.Author.Needs.{needs}
 use Rattle.test_lines.proofs.write_one.Statement.{statement}
 use Rattle.test_lines.proofs.write_one.Tie as tie
-use Rattle.test_records.proofs.take.num16.Reads as num16-reads
 
-num16-requires : tie.Need-num16-requires
-num16-requires c κs = search needs
+take-length-requires : tie.Need-take-length-requires
+take-length-requires c κs = search needs
 
 cast-room : tie.Need-cast-room
 cast-room c = search needs
@@ -18,8 +17,8 @@ array-borrow-prefix-space c = search needs
 
 slice-aggregate-write-into : tie.Need-slice-aggregate-write-into
 slice-aggregate-write-into c =
-    let few : c .before .num16 .result % 513 ≤ 512 = omega arith in
-    sym (length-take-le (c .before .num16 .result % 513) _ few)
+    let few : c .before .take-length .result % 513 ≤ 512 = omega arith in
+    sym (length-take-le (c .before .take-length .result % 513) _ few)
 
 write-into-requires : tie.Need-write-into-requires
 write-into-requires c κs = search needs
@@ -34,7 +33,7 @@ pub write-one-spec : {M : Type 1} → statement M
 write-one-spec =
     tie.close
     (tie.spec
-    num16-requires
+    take-length-requires
     cast-room
     array-borrow-prefix-space
     slice-aggregate-write-into

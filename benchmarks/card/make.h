@@ -97,14 +97,14 @@ static void emit_reset(struct maker *m, unsigned id, unsigned stu, unsigned rcb)
 // Packets that the card receives, with Attr at random: no side may decide anything by it.
 
 static void emit_packet(struct maker *m, const uint8_t *b, size_t n) {
-    uint8_t ordered[144];
+    uint8_t with_attr[144];
     unsigned attr = pick(m, 8);
-    memcpy(ordered, b, n);
+    memcpy(with_attr, b, n);
     if (n > 2) {
-        ordered[1] |= attr >> 2 << 2;
-        ordered[2] |= (attr & 3) << 4;
+        with_attr[1] |= attr >> 2 << 2;
+        with_attr[2] |= (attr & 3) << 4;
     }
-    emit(m, RECEIVE, 0, 0, 0, OUT, ordered, n);
+    emit(m, RECEIVE, 0, 0, 0, OUT, with_attr, n);
 }
 
 static void emit_completion(struct maker *m, unsigned tag, unsigned count, unsigned lower, const uint8_t *payload, size_t load) {

@@ -1,5 +1,5 @@
 -- A received packet has the same effect whatever its Attr is.
-use mathlib.Core.Path.{_≡_, refl, sym, ap, ap₂, _∙_}
+use mathlib.Core.Path.{_≡_, refl, sym, ap₂, _∙_}
 use mathlib.Core.List.{List}
 use Prim.Native.Nat.{ℕ}
 use Rattle.packet.specs.declared.Packet.{Packet}

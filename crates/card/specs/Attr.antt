@@ -6,7 +6,7 @@ use lib.ListN.{take}
 use Rattle.packet.specs.declared.Packet.{Packet}
 use Rattle.packet.specs.Numbers.{ok}
 use Rattle.packet.specs.Frames.{attrAt}
-use Rattle.packet.specs.Kinds.{noAttr}
+use Rattle.packet.specs.Kinds.{attrZero}
 use Rattle.packet.specs.Reading.{reading}
 use Rattle.packet.specs.SameButAttr.{SameButAttr}
 use Rattle.state.specs.declared.Function.{Function}
@@ -15,8 +15,7 @@ use Rattle.card.specs.declared.Command.{Command}
 use Rattle.card.specs.declared.Command.the-variants.{Receive}
 use Rattle.card.specs.Call.{step}
 
--- Two received packets that differ in no bit but Attr have the same answer, leave the same state and hand back the same
--- payload, whatever the state was.
+-- Received in state f, b and c have the same answer, leave the same state and buffer, and hand back the same payload.
 pub record Alike (f : Function) (b c out : List ℕ) : Type 0 where
   pub effect : step f Receive b out ≡ step f Receive c out
   pub payload : payloadFor (step f Receive b out .answer) b ≡ payloadFor (step f Receive c out .answer) c
@@ -25,11 +24,13 @@ pub record Alike (f : Function) (b c out : List ℕ) : Type 0 where
 abbrev pub sentBy : Function → Command → List ℕ → List ℕ → List ℕ
 sentBy f c bytes out = take (step f c bytes out .sent) (step f c bytes out .buffer)
 
--- In what any call sends, Attr is zero; and so it is read.
-pub record SentWithoutAttr (f : Function) (c : Command) (bytes out : List ℕ) : Type 0 where
+-- What the call sends has zeros in Attr, and is read with zeros.
+pub record SendsZeros (f : Function) (c : Command) (bytes out : List ℕ) : Type 0 where
   pub bits : attrAt (sentBy f c bytes out) ≡ 0
-  pub reads : (p : Packet) → reading (sentBy f c bytes out) ≡ ok p → p .head .attr ≡ noAttr
+  pub reads : (p : Packet) → reading (sentBy f c bytes out) ≡ ok p → p .head .attr ≡ attrZero
 
+-- Received packets that differ in no bit but Attr have the same effect in every state. Whatever a call sends has zeros
+-- in Attr.
 pub record AttrDecidesNothing : Type 0 where
   pub received : (f : Function) (b c out : List ℕ) → SameButAttr b c → Alike f b c out
-  pub sent : (f : Function) (c : Command) (bytes out : List ℕ) → SentWithoutAttr f c bytes out
+  pub sent : (f : Function) (c : Command) (bytes out : List ℕ) → SendsZeros f c bytes out

@@ -4,7 +4,7 @@ use mathlib.Core.Logic.{inl}
 use mathlib.Core.Bool.{Bool, true, false, not, _&&_, and-false}
 use mathlib.Core.List.{List, []}
 use mathlib.Core.Option.{none, some}
-use Prim.Native.Nat.{ℕ, zero, suc, _-_, _<_}
+use Prim.Native.Nat.{ℕ, zero, suc, _<_}
 use native.Mathlib.Omega.{arith}
 use lib.Dec.{eqb, ltb}
 use lib.ListN.{length}
@@ -12,7 +12,6 @@ use borrow.Author.Tests.{eqb-true, ltb-true}
 use Rattle.lemmas.proofs.Cases.{byCases, and-both, never-both, is-false, impossible}
 use Rattle.packet.specs.declared.ITag.{ITag}
 use Rattle.packet.specs.declared.Tag.{Tag}
-use Rattle.packet.specs.Numbers.{refusal}
 use Rattle.tlp.proofs.Fields.{typed-completion}
 use Rattle.tags.specs.declared.TagState.{TagState}
 use Rattle.tags.specs.declared.TagState.the-variants.{Free, Translate, Read}

@@ -18,7 +18,7 @@ use Rattle.packet.specs.declared.ITag.{ITag}
 use Rattle.packet.specs.declared.Tag.{Tag}
 use Rattle.packet.specs.declared.Access.the-variants.{Read as Fetches, Write}
 use Rattle.packet.specs.declared.PageRequest.{PageRequest}
-use Rattle.packet.specs.Numbers.{ok, refusal}
+use Rattle.packet.specs.Numbers.{ok}
 use Rattle.packet.proofs.Laws.{check-passed}
 use Rattle.packet.specs.Forms.{dwordCount}
 use Rattle.tlp.proofs.Fields.{typed-request, typed-access, typed-page}

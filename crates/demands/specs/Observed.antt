@@ -274,8 +274,7 @@ abbrev pub packetSent : ℕ → Command → Result Packet → Option (Sent terms
 packetSent stu c (ok p) = bodySent stu c (p .body)
 packetSent stu c (refusal n) = none
 
--- a packet of a kind that the Function sends, with its ID, Traffic Class 0 and no bit of Attr; an Invalidate Completion
--- has Completion Count 1 and completes something
+-- a packet of a kind that the Function sends; an Invalidate Completion has Completion Count 1 and completes something
 abbrev pub isSole : Body → Bool
 isSole (Tr t) = true
 isSole (Mem m) = true
@@ -285,6 +284,7 @@ isSole (Ic i) = eqb (i .cc) 1 && not (eqb (i .vector) 0)
 isSole (Prq q) = true
 isSole (Prs s) = false
 
+-- with its ID, on Traffic Class 0, with zeros in Attr
 abbrev pub isOurs : Noted → Result Packet → Bool
 isOurs me (ok p) =
     eqb (p .head .sender) (me .id) && (eqb (p .head .tc) 0 && (eqb (attrBits (p .head .attr)) 0 && isSole (p .body)))

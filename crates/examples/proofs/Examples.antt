@@ -1,4 +1,4 @@
--- The examples of document 01, proved for the definitions: one list, under one statement.
+-- The examples of document 01, and of the requests of document 02, proved for the definitions: one list, under one statement.
 use mathlib.Core.Path.{_≡_, refl}
 use mathlib.Core.Bool.{true, false, cond}
 use mathlib.Core.List.{List, [], _∷_, _++_}
@@ -10,7 +10,7 @@ use Rattle.packet.specs.declared.InvalidateRequest.{InvalidateRequest}
 use Rattle.packet.specs.declared.PageRequest.{PageRequest}
 use Rattle.packet.specs.Numbers.{ok, refusal, Result}
 use Rattle.packet.specs.Frames.{fourBytes}
-use Rattle.packet.specs.Kinds.{noAttr}
+use Rattle.packet.specs.Kinds.{attrZero}
 use Rattle.packet.specs.Reading.{reading}
 use Rattle.packet.specs.Writing.{bytesOf, writing}
 use Rattle.lister.specs.Line.{lineRead, lineText}
@@ -64,7 +64,7 @@ abbrev invalidateRequest : ℕ → InvalidateRequest
 invalidateRequest address = record { itag = record { 0 = 3 }; device = 0x0100; address = address; sized = true }
 
 abbrev invalidation : ℕ → Packet
-invalidation address = record { head = record { tc = 0; attr = noAttr; sender = 0x0200 }; body = Inv (invalidateRequest address) }
+invalidation address = record { head = record { tc = 0; attr = attrZero; sender = 0x0200 }; body = Inv (invalidateRequest address) }
 
 -- page 203000h, index 3, R and L
 abbrev page : PageRequest
@@ -175,20 +175,21 @@ examples =
     -- 5: the second of two units makes the request stale
     ∷ tagState (afterInvalidate .tags) (record { 0 = 0 }) is Translate (record { address = 0x0FFF_FFFF_C000; further = 1; stu = 2; stale = true; size = 0; whole = 0; due = 0 })
     -- 6: lines 1 and 2 of the listing
-    ∷ reading (fourBytes 0x0000_0402 ++ fourBytes 0x0100_05FF ++ fourBytes 0x0020_3000) is ok (record { head = record { tc = 0; attr = noAttr; sender = 0x0100 }; body = Tr (record { tag = record { 0 = 5 }; dwords = 2; address = 0x203000; nowrite = false }) })
-    ∷ reading (fourBytes 0x3200_0000 ++ fourBytes 0x0100_0002 ++ fourBytes 0x0008_0001 ++ fourBytes 0x8000_0001) is ok (record { head = record { tc = 0; attr = noAttr; sender = 0x0100 }; body = Ic (record { device = 0x0008; cc = 1; vector = 0x8000_0001 }) })
+    ∷ reading (fourBytes 0x0000_0402 ++ fourBytes 0x0100_05FF ++ fourBytes 0x0020_3000) is ok (record { head = record { tc = 0; attr = attrZero; sender = 0x0100 }; body = Tr (record { tag = record { 0 = 5 }; dwords = 2; address = 0x203000; nowrite = false }) })
+    ∷ reading (fourBytes 0x3200_0000 ++ fourBytes 0x0100_0002 ++ fourBytes 0x0008_0001 ++ fourBytes 0x8000_0001) is ok (record { head = record { tc = 0; attr = attrZero; sender = 0x0100 }; body = Ic (record { device = 0x0008; cc = 1; vector = 0x8000_0001 }) })
     ∷ lineText 1 line1 is shown1
     ∷ lineText 2 line2 is shown2
     -- 7: a page request, byte for byte, as the writer and as the Function sends it
-    ∷ bytesOf (pageRequest noAttr) [] is pageBytes 0x3000_0000
-    ∷ writing (pageRequest noAttr) 0 16 is ok 16
+    ∷ bytesOf (pageRequest attrZero) [] is pageBytes 0x3000_0000
+    ∷ writing (pageRequest attrZero) 0 16 is ok 16
     ∷ outcome (functionAfter (started 0) ((PagesOn 1, []) ∷ [])) (Requests page) [] is (ok done, 16, pageBytes 0x3000_0000)
     -- 8: at the top of the address space one unit can be requested, and two cannot
     ∷ outcome (started 0) (ask 0xFFFF_FFFF_FFFF_F000 1) [] is (ok (tag 0), 16, fourBytes 0x2000_0402 ++ fourBytes 0x0100_00FF ++ fourBytes 0xFFFF_FFFF ++ fourBytes 0xFFFF_F000)
     ∷ outcome (started 0) (ask 0xFFFF_FFFF_FFFF_F000 2) [] is (refusal 12, 0, buffer)
-    -- 02 a: the last page request of a group, with Relaxed Ordering clear and with it set; each of the other two bits alone
-    ∷ reading (pageBytes 0x3000_0000) is ok (pageRequest noAttr)
+    -- 02 a: the last page request of a group, with Relaxed Ordering clear and with it set
+    ∷ reading (pageBytes 0x3000_0000) is ok (pageRequest attrZero)
     ∷ reading (pageBytes 0x3000_2000) is ok (pageRequest relaxedOrdering)
+    -- and with each of the other two bits alone
     ∷ reading (pageBytes 0x3004_0000) is ok (pageRequest (record { ido = true; relaxed = false; nosnoop = false }))
     ∷ reading (pageBytes 0x3000_1000) is ok (pageRequest (record { ido = false; relaxed = false; nosnoop = true }))
     -- the unnamed bits of these bytes mean nothing, and are written as zero

@@ -2,12 +2,12 @@
 -- its comment says, as far as that run goes.
 use mathlib.Core.Path.{_≡_, refl, sym, ap, _∙_}
 use mathlib.Core.Logic.{⊎-elim}
-use mathlib.Core.Bool.{Bool, true, false, cond, _||_}
+use mathlib.Core.Bool.{Bool, true, false, cond, _&&_, _||_}
 use mathlib.Core.List.{List, [], _∷_, map}
 use mathlib.Core.Option.{Option, none, some}
 use Prim.Native.Nat.{ℕ, _+_, _-_}
 use native.Mathlib.Omega.{arith}
-use lib.Dec.{eqb, leb, lit<}
+use lib.Dec.{eqb, leb, ltb, lit<}
 use lib.ListN.{length, set, getD}
 use Rattle.packet.specs.declared.Tag.{Tag}
 use Rattle.packet.specs.declared.Access.the-variants.{Read as Fetches}
@@ -35,7 +35,7 @@ use Rattle.state.specs.Answers.{Observed, done, carries, payloadLast}
 use Rattle.call_access.specs.Access.{memoryRequestPacket}
 use Rattle.call_send.specs.Drain.{invalidateCompletionPacket, readyOf}
 use Rattle.call_access.specs.declared.Direction.the-variants.{Read, Write}
-use Rattle.card.specs.declared.Command.the-variants.{Reset, Ask, Access}
+use Rattle.card.specs.declared.Command.the-variants.{Ask, Access}
 use Rattle.card.specs.Call.{step}
 use Rattle.lemmas.proofs.Bools.{no-tf, no-some}
 use Rattle.demand3.specs.Seen.{Taken, CPL, INV, DRAIN}
@@ -43,8 +43,8 @@ use Rattle.demand3.specs.History.{given}
 use Rattle.demand3.specs.Runs.{Machine, Bench, stateAfter, Unbroken, Run, arrival, end, Served}
 use Rattle.demand3.specs.Order.{Completed, Order}
 use Rattle.demand3.proofs.Consequence.{broughtIn, brought-in}
-use Rattle.demands.specs.Observed.{Call, Cached, Wanted, terms, isRefused, isReset, addressFor, callTaken, observer, heldIn}
-use Rattle.impostors.proofs.Runs.{simply, enable, drain, ask, read, granted, grantedLate, firstPart, bothParts, nothingSaid, elsewhere, tooMany, request, ordered, another, anothers, garbled, reset, three, four-of-another, page}
+use Rattle.demands.specs.Observed.{Call, Cached, Wanted, terms, roleOf, isRefused, isReset, addressFor, callTaken, observer, heldIn}
+use Rattle.impostors.proofs.Runs.{simply, enable, drain, ask, read, granted, grantedLate, firstPart, bothParts, nothingSaid, elsewhere, tooMany, request, relaxedRequest, another, anothers, garbled, reset, three, four-of-another, page}
 use Rattle.lemmas.proofs.Cases.{byCases, impossible}
 use Rattle.atc.proofs.Laws.{laws}
 use Rattle.demands.proofs.Views.{no-entry}
@@ -371,16 +371,16 @@ idleMoves x c = record { inner = honest (x .inner) c .state; drawer = noEntry; f
 abbrev idleCard : Machine observer
 idleCard = oddBy idleMoves (λ x c. cond (x .flag) (c .out) (honest (x .inner) c .buffer))
 
--- once a packet with Relaxed Ordering has come, it sends with Relaxed Ordering
+-- once it has received a packet with Relaxed Ordering, whatever it sends has Relaxed Ordering
 abbrev isRelaxed : Result Packet → Bool
 isRelaxed (ok p) = p .head .attr .relaxed
 isRelaxed (refusal n) = false
 
 abbrev echoMoves : Odd → Call → Odd
-echoMoves x c = record { inner = honest (x .inner) c .state; drawer = noEntry; flag = x .flag || isRelaxed (reading (c .bytes)) }
+echoMoves x c = record { inner = honest (x .inner) c .state; drawer = noEntry; flag = x .flag || (roleOf (c .command) .receives && isRelaxed (reading (c .bytes))) }
 
 abbrev echoCard : Machine observer
-echoCard = oddBy echoMoves (λ x c. let b = honest (x .inner) c .buffer in cond (x .flag) (set b 2 (getD b 2 0 + 0x20)) b)
+echoCard = oddBy echoMoves (λ x c. let r = honest (x .inner) c in cond (x .flag && ltb 0 (r .sent)) (set (r .buffer) 2 (getD (r .buffer) 2 0 + 0x20)) (r .buffer))
 
 -- ---- why they are refused
 
@@ -490,7 +490,7 @@ refused =
       unwritten = λ d. let M = cardBy unwritten in let z : _≡_ {A = ℕ} 1 0 = d .new .letter .counts (to M (request ∷ []) drain [] (refl, (refl, tt)) tt) three in omega arith;
       astray = λ d. let M = cardBy astray in let z : _≡_ {A = ℕ} 1 0 = d .new .letter .counts (to M (request ∷ []) drain [] (refl, (refl, tt)) tt) three in omega arith;
       idle = λ d. let M = idleCard in let z : _≡_ {A = ℕ} 2 1 = d .new .letter .counts (to M (request ∷ drain ∷ request ∷ []) drain [] (refl, (refl, (refl, (refl, tt)))) tt) three in omega arith;
-      echo = λ d. let M = echoCard in no-tf (sym (d .new .beyond .legible (to M (ordered ∷ []) drain [] (refl, (refl, tt)) tt)));
+      echo = λ d. let M = echoCard in no-tf (sym (d .new .beyond .legible (to M (relaxedRequest ∷ []) drain [] (refl, (refl, tt)) tt)));
       again = λ d. let M = cardBy again in no-some (sym (d .new .beyond .tags (to M (ask ∷ enable ∷ []) ask [] (refl, (refl, (refl, tt))) tt) 0 refl .1));
       curious = λ d. let M = cardBy curious in no-some (sym (d .new .letter .reads (to M (enable ∷ []) request (drain ∷ []) (refl, (refl, tt)) (refl, tt)) three page (refl, lit< tt) 0));
       repeater = λ d. let M = cardBy repeater in no-some (sym (d .new .letter .reads (to M warm request (drain ∷ firstPart ∷ firstPart ∷ []) (refl, (refl, (refl, (refl, (refl, (refl, tt)))))) (refl, (refl, (refl, tt)))) three page (refl, lit< tt) 0));

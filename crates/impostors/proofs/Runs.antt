@@ -3,7 +3,7 @@ use mathlib.Core.Path.{_≡_, refl}
 use mathlib.Core.Bool.{true, false}
 use mathlib.Core.List.{List, [], _∷_, _++_}
 use mathlib.Core.Option.{none, some}
-use Prim.Native.Nat.{ℕ, _+_}
+use Prim.Native.Nat.{ℕ}
 use lib.Dec.{lit<}
 use lib.ListN.{replicate}
 use Rattle.packet.specs.Frames.{fourBytes}
@@ -85,8 +85,8 @@ abbrev pub request : Call
 request = receive (fourBytes 0x7200_0002 ++ fourBytes 0x0200_0301 ++ fourBytes 0 ++ fourBytes 0 ++ fourBytes 0 ++ fourBytes 0x5000) refl
 
 -- the same with Relaxed Ordering
-abbrev pub ordered : Call
-ordered = receive (fourBytes 0x7200_2002 ++ fourBytes 0x0200_0301 ++ fourBytes 0 ++ fourBytes 0 ++ fourBytes 0 ++ fourBytes 0x5000) refl
+abbrev pub relaxedRequest : Call
+relaxedRequest = receive (fourBytes 0x7200_2002 ++ fourBytes 0x0200_0301 ++ fourBytes 0 ++ fourBytes 0 ++ fourBytes 0 ++ fourBytes 0x5000) refl
 
 -- one of ITag 4 from 0300h
 abbrev pub another : Call

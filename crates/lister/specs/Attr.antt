@@ -9,8 +9,8 @@ use Rattle.text.specs.Digits.{allHex, unhex}
 use Rattle.lister.specs.Line.{lineText}
 
 -- Two lines of hex whose bytes differ in no bit but Attr have the same output.
-abbrev pub AttrNotListed : Type 0
-AttrNotListed =
+abbrev pub AttrNotShown : Type 0
+AttrNotShown =
     (k : ℕ) (cs ds : List ℕ) → length cs ≡ length ds → allHex cs ≡ true → allHex ds ≡ true
     → SameButAttr (unhex cs) (unhex ds)
     → lineText k cs ≡ lineText k ds

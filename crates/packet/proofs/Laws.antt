@@ -1,4 +1,4 @@
--- A successful result has passed every test.
+-- Laws of results and of forms: a successful result has passed every test.
 use mathlib.Core.Path.{_≡_, refl}
 use mathlib.Core.Bool.{Bool, true, false, cond}
 use Prim.Native.Nat.{ℕ, _+_, _<_, _≤_}
@@ -6,6 +6,8 @@ use lib.Dec.{ltb, eqb}
 use borrow.Author.Tests.{ltb-true, ltb-false, eqb-true}
 use Rattle.lemmas.proofs.Cases.{and-both, impossible}
 use Rattle.packet.specs.declared.Packet.{Packet}
+use Rattle.packet.specs.declared.Form.{Form}
+use Rattle.packet.specs.declared.Form.the-variants.{Mrd32, Mrd64, Mwr32, Mwr64, CplNoData, CplData, InvReq, InvCpl, PageReq, PrgResp}
 use Rattle.packet.specs.Numbers.{Result, ok, refusal}
 use Rattle.packet.specs.Forms.{payloadOffset}
 use Rattle.packet.specs.Kinds.{fieldsInRange, bodyInRange, allowed, payloadLength, formOf}
@@ -55,3 +57,16 @@ accepted p load room n e =
       long = same;
       fits = rw (← same) (ltb-false room size (d .0));
     }
+
+-- the fields take 12, 16 or 24 bytes
+pub by-fixed : (P : ℕ → Type 0) → P 12 → P 16 → P 24 → (m : Form) → P (payloadOffset m)
+by-fixed P a b c Mrd32 = a
+by-fixed P a b c Mrd64 = b
+by-fixed P a b c Mwr32 = a
+by-fixed P a b c Mwr64 = b
+by-fixed P a b c CplNoData = a
+by-fixed P a b c CplData = a
+by-fixed P a b c InvReq = c
+by-fixed P a b c InvCpl = b
+by-fixed P a b c PageReq = b
+by-fixed P a b c PrgResp = b

@@ -1,7 +1,7 @@
 -- Reading depends on Attr in nothing but the packet's own Attr.
-use Prim.Native.Nat.{ℕ, _+_, _*_, _/_, _%_, _≤_}
+use Prim.Native.Nat.{ℕ, _/_, _%_, _≤_}
 use native.Mathlib.Omega.{arith}
-use mathlib.Core.Path.{_≡_, refl, sym, ap, _∙_}
+use mathlib.Core.Path.{_≡_, refl}
 use mathlib.Core.Bool.{Bool, true, false, cond}
 use mathlib.Core.List.{List, [], _∷_}
 use lib.ListN.{length, drop}
@@ -16,17 +16,24 @@ use Rattle.packet.specs.declared.Form.{Form}
 use Rattle.packet.specs.declared.Form.the-variants.{Mrd32, Mrd64, Mwr32, Mwr64, CplNoData, CplData, InvReq, InvCpl, PageReq, PrgResp}
 use Rattle.packet.specs.Numbers.{Result, ok, refusal}
 use Rattle.packet.specs.Frames.{byte, attrAt, decodeFrame}
-use Rattle.packet.specs.Forms.{choose, byte0Of, packetLength, payloadOffset}
-use Rattle.packet.specs.Kinds.{noAttr, bodyIn, wellFormed, allowedBody, packetIn}
-use Rattle.packet.specs.Reading.{readForm, readChoice, readFrame, reading, payloadAs, payloadIn}
+use Rattle.packet.specs.Forms.{choose, packetLength}
+use Rattle.packet.specs.Kinds.{attrZero, bodyIn, wellFormed, allowedBody}
+use Rattle.packet.specs.Reading.{readForm, readChoice, reading, payloadAs, payloadIn}
 use Rattle.packet.specs.SameButAttr.{SameButAttr}
+use Rattle.packet.proofs.Laws.{by-fixed}
 
--- what was read, but for Attr
+-- what was read, with Attr cleared
 abbrev pub attrCleared : Result Packet → Result Packet
-attrCleared (ok p) = ok (record { head = record { tc = p .head .tc; attr = noAttr; sender = p .head .sender }; body = p .body })
+attrCleared (ok p) = ok (record { head = record { tc = p .head .tc; attr = attrZero; sender = p .head .sender }; body = p .body })
 attrCleared (refusal n) = refusal n
 
 -- ---- frames
+
+-- both pass a test, or neither does
+same-test : (t : Bool) (n : ℕ) (x y : Result Packet) → attrCleared x ≡ attrCleared y
+    → attrCleared (cond t x (refusal n)) ≡ attrCleared (cond t y (refusal n))
+same-test true n x y e = e
+same-test false n x y e = refl
 
 module _ (f : Frame) (attr : ℕ) where
   -- the frame with another Attr
@@ -34,7 +41,7 @@ module _ (f : Frame) (attr : ℕ) where
   withAttr =
       record {
         byte0 = f .byte0;
-        front = record { tc = f .front .tc; attr = attr; marks = f .front .marks; sender = f .front .sender };
+        common = record { tc = f .common .tc; attr = attr; marks = f .common .marks; sender = f .common .sender };
         at = f .at;
         dwords = f .dwords;
         byte6 = f .byte6;
@@ -70,20 +77,14 @@ module _ (f : Frame) (attr : ℕ) where
   same-shape PageReq = refl
   same-shape PrgResp = refl
 
-  -- both pass a test, or neither does
-  same-test : (t : Bool) (n : ℕ) (x y : Result Packet) → attrCleared x ≡ attrCleared y
-      → attrCleared (cond t x (refusal n)) ≡ attrCleared (cond t y (refusal n))
-  same-test true n x y e = e
-  same-test false n x y e = refl
-
   same-form : (m : Form) (n : ℕ) → attrCleared (readForm m withAttr n) ≡ attrCleared (readForm m f n)
   unfolding readForm
   same-form m n =
       rw (same-body m, same-shape m)
       (same-test (eqb n (packetLength m (f .dwords))) 1 _ _
-      (same-test (eqb (f .front .marks) 0) 3 _ _
+      (same-test (eqb (f .common .marks) 0) 3 _ _
       (same-test (wellFormed m f) 4 _ _
-      (same-test (allowedBody (f .front .tc) (bodyIn m f)) 4 _ _ refl))))
+      (same-test (allowedBody (f .common .tc) (bodyIn m f)) 4 _ _ refl))))
 
   same-choice : (c : Choice) (n : ℕ) → attrCleared (readChoice c withAttr n) ≡ attrCleared (readChoice c f n)
   same-choice (Listed m) n = same-form m n
@@ -92,17 +93,10 @@ module _ (f : Frame) (attr : ℕ) where
 -- ---- bytes
 
 -- the payload begins after byte 3
-payload-from : (b0 b1 b2 c0 c1 c2 : ℕ) (r : List ℕ) (t u : Bool) →
-    let n = cond t (cond u 12 16 + 8) (cond u 12 16) in
-    drop n (b0 ∷ b1 ∷ b2 ∷ r) ≡ drop n (c0 ∷ c1 ∷ c2 ∷ r)
-payload-from b0 b1 b2 c0 c1 c2 r true true = refl
-payload-from b0 b1 b2 c0 c1 c2 r true false = refl
-payload-from b0 b1 b2 c0 c1 c2 r false true = refl
-payload-from b0 b1 b2 c0 c1 c2 r false false = refl
-
 payload-as : (b0 b1 b2 c0 c1 c2 : ℕ) (r : List ℕ) (c : Choice)
     → payloadAs c (b0 ∷ b1 ∷ b2 ∷ r) ≡ payloadAs c (c0 ∷ c1 ∷ c2 ∷ r)
-payload-as b0 b1 b2 c0 c1 c2 r (Listed m) = payload-from b0 b1 b2 c0 c1 c2 r (eqb (byte0Of m) (byte0Of InvReq)) (eqb (byte0Of m / 0x20 % 2) 0)
+payload-as b0 b1 b2 c0 c1 c2 r (Listed m) =
+    by-fixed (λ (n : ℕ). drop n (b0 ∷ b1 ∷ b2 ∷ r) ≡ drop n (c0 ∷ c1 ∷ c2 ∷ r)) refl refl refl m
 payload-as b0 b1 b2 c0 c1 c2 r Unlisted = refl
 
 abbrev Same : List ℕ → List ℕ → Type 0

@@ -4,7 +4,7 @@ use mathlib.Core.Bool.{cond}
 use mathlib.Core.List.{List, [], _∷_, _++_}
 use lib.ListN.{getD, length}
 use lib.Dec.{ltb}
-use Rattle.packet.specs.declared.Front.{Front}
+use Rattle.packet.specs.declared.Common.{Common}
 use Rattle.packet.specs.declared.Frame.{Frame}
 
 -- byte i of a packet
@@ -30,15 +30,16 @@ abbrev pub attrAt : List ℕ → ℕ
 attrAt b = byte b 1 / 4 % 2 * 4 + byte b 2 / 16 % 4
 
 -- byte 1 has TC in bits 6:4; byte 2 has TD and EP in bits 7:6; bytes 4 and 5 are the sender's ID
-abbrev pub decodeFront : List ℕ → Front
-decodeFront b = record { tc = byte b 1 / 16 % 8; attr = attrAt b; marks = byte b 2 / 64; sender = num16At b 4 }
+abbrev pub decodeCommon : List ℕ → Common
+decodeCommon b = record { tc = byte b 1 / 16 % 8; attr = attrAt b; marks = byte b 2 / 64; sender = num16At b 4 }
 
--- Byte 2 has AT in bits 3:2. Bytes 12 to 15 count as 0 in a packet of fewer than 16 bytes, and the body in one of fewer than 24.
+-- Byte 2 has AT in bits 3:2. Bytes 12 to 15 count as 0 in a packet of fewer than 16 bytes, and the body in one of fewer
+-- than 24.
 unfoldable pub decodeFrame : List ℕ → Frame
 decodeFrame b =
     record {
       byte0 = byte b 0;
-      front = decodeFront b;
+      common = decodeCommon b;
       at = byte b 2 / 4 % 4;
       dwords = dwordsAt b;
       byte6 = byte b 6;
@@ -56,11 +57,11 @@ fourBytes n = (n / 16777216 % 256) ∷ (n / 65536 % 256) ∷ (n / 256 % 256) ∷
 abbrev pub encodeFrame : Frame → List ℕ
 encodeFrame f =
     f .byte0
-    ∷ (f .front .tc % 8 * 16 + f .front .attr / 4 % 2 * 4)
-    ∷ (f .front .attr % 4 * 16 + f .at % 4 * 4 + f .dwords / 256 % 4)
+    ∷ (f .common .tc % 8 * 16 + f .common .attr / 4 % 2 * 4)
+    ∷ (f .common .attr % 4 * 16 + f .at % 4 * 4 + f .dwords / 256 % 4)
     ∷ (f .dwords % 256)
-    ∷ (f .front .sender / 256 % 256)
-    ∷ (f .front .sender % 256)
+    ∷ (f .common .sender / 256 % 256)
+    ∷ (f .common .sender % 256)
     ∷ f .byte6
     ∷ f .byte7
     ∷ (fourBytes (f .dword8) ++ fourBytes (f .dword12) ++ fourBytes (f .body / 2 ^ 32) ++ fourBytes (f .body % 2 ^ 32))

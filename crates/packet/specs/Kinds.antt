@@ -2,7 +2,7 @@
 use Prim.Native.Nat.{ℕ, _+_, _*_, _/_, _%_, _^_}
 use mathlib.Core.Bool.{Bool, true, false, cond, not, _&&_}
 use lib.Dec.{ltb, leb, eqb}
-use Rattle.packet.specs.declared.Front.{Front}
+use Rattle.packet.specs.declared.Common.{Common}
 use Rattle.packet.specs.declared.Frame.{Frame}
 use Rattle.packet.specs.declared.Form.{Form}
 use Rattle.packet.specs.declared.Form.the-variants.{Mrd32, Mrd64, Mwr32, Mwr64, CplNoData, CplData, InvReq, InvCpl, PageReq, PrgResp}
@@ -23,11 +23,11 @@ use Rattle.packet.specs.Forms.{byte0Of, dwordCount, byteEnables}
 abbrev pub attrIn : ℕ → Attr
 attrIn n = record { ido = eqb (n / 4 % 2) 1; relaxed = eqb (n / 2 % 2) 1; nosnoop = eqb (n % 2) 1 }
 
--- no bit of it set
-abbrev pub noAttr : Attr
-noAttr = record { ido = false; relaxed = false; nosnoop = false }
+-- Attr with no bit set
+abbrev pub attrZero : Attr
+attrZero = record { ido = false; relaxed = false; nosnoop = false }
 
-abbrev pub headIn : Front → Head
+abbrev pub headIn : Common → Head
 headIn f = record { tc = f .tc; attr = attrIn (f .attr); sender = f .sender }
 
 -- the address of the 64-bit forms, and the QWORD that a Page Request has there
@@ -113,7 +113,7 @@ bodyIn PageReq f = prqIn (address64In f)
 bodyIn PrgResp f = prsIn f
 
 abbrev pub packetIn : Form → Frame → Packet
-packetIn m f = record { head = headIn (f .front); body = bodyIn m f }
+packetIn m f = record { head = headIn (f .common); body = bodyIn m f }
 
 -- ---- forbidden values that no field of a packet can hold, so that only the frame shows them
 
@@ -259,15 +259,15 @@ abbrev pub attrBits : Attr → ℕ
 attrBits a = bitOf (a .ido) * 4 + bitOf (a .relaxed) * 2 + bitOf (a .nosnoop)
 
 -- TD and EP are written as zero
-abbrev pub frontOf : Head → Front
-frontOf h = record { tc = h .tc; attr = attrBits (h .attr); marks = 0; sender = h .sender }
+abbrev pub commonOf : Head → Common
+commonOf h = record { tc = h .tc; attr = attrBits (h .attr); marks = 0; sender = h .sender }
 
-unfoldable pub packetFrame : Front → Body → Frame
-packetFrame front (Tr t) =
+unfoldable pub packetFrame : Common → Body → Frame
+packetFrame common (Tr t) =
     let a = t .address / 4096 * 4096 + bitOf (t .nowrite) in
     record {
       byte0 = byte0Of (formOf (Tr t));
-      front = front;
+      common = common;
       at = 1;
       dwords = t .dwords;
       byte6 = t .tag .0;
@@ -276,10 +276,10 @@ packetFrame front (Tr t) =
       dword12 = addressDword12 a;
       body = 0;
     }
-packetFrame front (Mem m) =
+packetFrame common (Mem m) =
     record {
       byte0 = byte0Of (formOf (Mem m));
-      front = front;
+      common = common;
       at = bitOf (m .translated) * 2;
       dwords = m .dwords;
       byte6 = accessTag (m .access);
@@ -288,10 +288,10 @@ packetFrame front (Mem m) =
       dword12 = addressDword12 (m .address);
       body = 0;
     }
-packetFrame front (Cpl c) =
+packetFrame common (Cpl c) =
     record {
       byte0 = byte0Of (formOf (Cpl c));
-      front = front;
+      common = common;
       at = 0;
       dwords = outcomeDwords (c .outcome);
       byte6 = outcomeStatus (c .outcome) % 8 * 32 + c .count / 256 % 16;
@@ -300,10 +300,10 @@ packetFrame front (Cpl c) =
       dword12 = 0;
       body = 0;
     }
-packetFrame front (Inv i) =
+packetFrame common (Inv i) =
     record {
       byte0 = byte0Of InvReq;
-      front = front;
+      common = common;
       at = 0;
       dwords = 2;
       byte6 = i .itag .0;
@@ -312,10 +312,10 @@ packetFrame front (Inv i) =
       dword12 = 0;
       body = i .address / 4096 * 4096 + bitOf (i .sized) * 2048;
     }
-packetFrame front (Ic i) =
+packetFrame common (Ic i) =
     record {
       byte0 = byte0Of InvCpl;
-      front = front;
+      common = common;
       at = 0;
       dwords = 0;
       byte6 = 0;
@@ -324,11 +324,11 @@ packetFrame front (Ic i) =
       dword12 = i .vector;
       body = 0;
     }
-packetFrame front (Prq q) =
+packetFrame common (Prq q) =
     let a = q .page / 4096 * 4096 + q .index .0 % 512 * 8 + bitOf (q .last) * 4 + bitOf (q .write) * 2 + bitOf (q .read) in
     record {
       byte0 = byte0Of PageReq;
-      front = front;
+      common = common;
       at = 0;
       dwords = 0;
       byte6 = 0;
@@ -337,10 +337,10 @@ packetFrame front (Prq q) =
       dword12 = a % 2 ^ 32;
       body = 0;
     }
-packetFrame front (Prs s) =
+packetFrame common (Prs s) =
     record {
       byte0 = byte0Of PrgResp;
-      front = front;
+      common = common;
       at = 0;
       dwords = 0;
       byte6 = 0;
@@ -349,3 +349,6 @@ packetFrame front (Prs s) =
       dword12 = 0;
       body = 0;
     }
+
+abbrev pub frameOf : Packet → Frame
+frameOf p = packetFrame (commonOf (p .head)) (p .body)

@@ -25,7 +25,7 @@ readResult (Refused r) = refusal (numberOf r)
 unfoldable pub readForm : Form → Frame → ℕ → Result Packet
 readForm m f n =
     check 1 (eqb n (packetLength m (f .dwords)))
-    (check 3 (eqb (f .front .marks) 0)
+    (check 3 (eqb (f .common .marks) 0)
     (check 4 (wellFormed m f)
     (check 4 (allowed (packetIn m f))
     (ok (packetIn m f)))))

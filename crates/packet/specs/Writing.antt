@@ -9,7 +9,7 @@ use Rattle.packet.specs.declared.Writing.the-variants.{Written, Refused}
 use Rattle.packet.specs.Numbers.{Result, ok, refusal, numberOf, refuse, check}
 use Rattle.packet.specs.Frames.{encodeFrame}
 use Rattle.packet.specs.Forms.{payloadOffset}
-use Rattle.packet.specs.Kinds.{fieldsInRange, allowed, payloadLength, formOf, frontOf, packetFrame}
+use Rattle.packet.specs.Kinds.{fieldsInRange, allowed, payloadLength, formOf, frameOf}
 
 -- the result of an answer of the code
 abbrev pub writeResult : Writing → Result ℕ
@@ -18,7 +18,7 @@ writeResult (Refused r) = refusal (numberOf r)
 
 -- the bytes of a packet: its fields, and then its payload
 unfoldable pub bytesOf : Packet → List ℕ → List ℕ
-bytesOf p payload = take (payloadOffset (formOf (p .body))) (encodeFrame (packetFrame (frontOf (p .head)) (p .body))) ++ payload
+bytesOf p payload = take (payloadOffset (formOf (p .body))) (encodeFrame (frameOf p)) ++ payload
 
 -- n if there is room for n bytes, otherwise refused with 17
 abbrev pub checkRoom : ℕ → ℕ → Result ℕ

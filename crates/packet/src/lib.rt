@@ -151,7 +151,7 @@ pub enum Choice {
 
 // The values of the bits that mean the same in every kind. `attr` is Attr as a number of three
 // bits, and `marks` is TD and EP.
-pub struct Front {
+pub struct Common {
     pub tc: u8,
     pub attr: u8,
     pub marks: u8,
@@ -162,7 +162,7 @@ pub struct Front {
 // field whose meaning depends on the kind is named by its position.
 pub struct Frame {
     pub byte0: u8,
-    pub front: Front,
+    pub common: Common,
     pub at: u8,
     pub dwords: u16,
     pub byte6: u8,

@@ -2,10 +2,10 @@
 use packet::Access;
 use packet::Attr;
 use packet::Body;
+use packet::Common;
 use packet::Completion;
 use packet::Form;
 use packet::Frame;
-use packet::Front;
 use packet::Head;
 use packet::ITag;
 use packet::InvalidateCompletion;
@@ -31,7 +31,7 @@ fn attr(n: u8) -> Attr
 }
 
 // Traffic Class, Attr and sender's ID.
-pub(crate) fn head(f: Front) -> Head
+pub(crate) fn head(f: Common) -> Head
     ensures { λ r. ⌜ r ≡ headIn f ⌝ }
 {
     Head {

@@ -6,14 +6,14 @@ mod nums;
 mod order;
 
 use packet::Choice;
+use packet::Common;
 use packet::Frame;
-use packet::Front;
 use packet::Reading;
 use packet::Refusal;
 ghost use mathlib.Core.Path.{_≡_};
 ghost use Prim.Native.Nat.{_≤_};
 ghost use lib.ListN.{length, drop};
-ghost use Rattle.packet.specs.Frames.{attrAt, decodeFront, decodeFrame, dwordsAt};
+ghost use Rattle.packet.specs.Frames.{attrAt, decodeCommon, decodeFrame, dwordsAt};
 ghost use Rattle.packet.specs.Reading.{readResult, reading, payloadIn, qwordAt};
 
 fn dwords(b: &[u8]) -> u16
@@ -30,11 +30,11 @@ fn attr_at(b: &[u8]) -> u8
     b[1] / 4 % 2 * 4 + b[2] / 16 % 4
 }
 
-fn decode_front(b: &[u8]) -> Front
+fn decode_common(b: &[u8]) -> Common
     requires { ⌜ 12 ≤ length (now b) ⌝ }
-    ensures { λ r. ⌜ r ≡ decodeFront (now (b .entry)) ⌝ }
+    ensures { λ r. ⌜ r ≡ decodeCommon (now (b .entry)) ⌝ }
 {
-    Front {
+    Common {
         tc: b[1] / 16 % 8,
         attr: attr_at(b),
         marks: b[2] / 64,
@@ -48,7 +48,7 @@ fn decode_frame(b: &[u8]) -> Frame
 {
     Frame {
         byte0: b[0],
-        front: decode_front(b),
+        common: decode_common(b),
         at: b[2] / 4 % 4,
         dwords: dwords(b),
         byte6: b[6],

@@ -14,18 +14,18 @@ pub(crate) fn read_form(m: Form, f: Frame, n: usize) -> Reading
     ensures { λ r. ⌜ readResult r ≡ readForm m f n ⌝ }
 {
     let expected = forms::length_of(m, f.dwords);
-    let front = f.front;
+    let common = f.common;
     if n != expected {
         return Reading::Refused(Refusal::BadLength);
     }
-    if front.marks != 0 {
+    if common.marks != 0 {
         return Reading::Refused(Refusal::PoisonedOrDigest);
     }
     if forms::is_well_formed(m, f) {
         let body = fields::fields(m, f);
-        if packet::is_allowed(front.tc, body) {
+        if packet::is_allowed(common.tc, body) {
             return Reading::Read(Packet {
-                head: fields::head(front),
+                head: fields::head(common),
                 body,
             });
         }

@@ -5,7 +5,7 @@ use Prim.Native.Nat.{ℕ}
 use lib.Dec.{eqb}
 use Rattle.packet.specs.declared.Head.{Head}
 use Rattle.packet.specs.declared.Tag.{Tag}
-use Rattle.packet.specs.Kinds.{noAttr}
+use Rattle.packet.specs.Kinds.{attrZero}
 use Rattle.atc.specs.declared.Cache.{Cache}
 use Rattle.atc.specs.Cache.{blank}
 use Rattle.tags.specs.declared.TagState.{TagState}
@@ -21,7 +21,7 @@ use Rattle.state.specs.declared.Function.{Function}
 
 -- every packet is sent on Traffic Class 0, with zeros in Attr (02 a)
 abbrev pub headOf : ℕ → Head
-headOf id = record { tc = 0; attr = noAttr; sender = id }
+headOf id = record { tc = 0; attr = attrZero; sender = id }
 
 -- RCB is 64 or 128
 abbrev pub isRcb : ℕ → Bool

@@ -23,9 +23,10 @@ use Rattle.packet.specs.declared.PrgResponse.{PrgResponse}
 use Rattle.packet.specs.declared.Body.{Body}
 use Rattle.packet.specs.declared.Body.the-variants.{Tr, Mem, Cpl, Inv, Ic, Prq, Prs}
 use Rattle.packet.specs.Forms.{choose, byte0Of, payloadOffset, packetLength, byteEnables, dwordCount}
-use Rattle.packet.specs.Kinds.{headIn, frontOf, address64In, readRequestIn, memIn, bodyIn, packetIn, wellFormedMem, wellFormedReadRequest, wellFormed, shortEnough, allowedOutcome, allowedBody, bodyInRange, accessPayloadLength, outcomePayloadLength, payloadLength, needs64Bits, accessForm, outcomeForm, formOf, bitOf, addressDword8, addressDword12, packetFrame}
+use Rattle.packet.specs.Kinds.{headIn, commonOf, address64In, readRequestIn, memIn, bodyIn, packetIn, wellFormedMem, wellFormedReadRequest, wellFormed, shortEnough, allowedOutcome, allowedBody, bodyInRange, accessPayloadLength, outcomePayloadLength, payloadLength, needs64Bits, accessForm, outcomeForm, formOf, bitOf, addressDword8, addressDword12, packetFrame}
 use Rattle.lemmas.proofs.Cases.{byCases, and-both}
-use Rattle.tlp.proofs.Fronts.{bit-back, bit-le, SoundFront, front-sound, head-back, frame-front}
+use Rattle.tlp.proofs.Flags.{bit-back, bit-le}
+use Rattle.tlp.proofs.Common.{SoundCommon, common-sound, head-back, frame-common}
 use Rattle.tlp.proofs.Frames.{Sound, halves}
 use Rattle.tlp.specs.Fields.{TypedAccess, TypedBody, Typed}
 
@@ -100,17 +101,17 @@ stores false = record { body = λ f. refl; shape = λ f. refl; chosen = λ b7. r
 
 -- what holds of a packet's frame
 pub record Framed (h : Head) (b : Body) : Type 0 where
-  pub sound : Sound (packetFrame (frontOf h) b)
-  pub chosen : choose (packetFrame (frontOf h) b .byte0) (packetFrame (frontOf h) b .byte7) ≡ Listed (formOf b)
-  pub shape : wellFormed (formOf b) (packetFrame (frontOf h) b) ≡ true
-  pub back : bodyIn (formOf b) (packetFrame (frontOf h) b) ≡ b
-  pub long : packetLength (formOf b) (packetFrame (frontOf h) b .dwords) ≡ payloadOffset (formOf b) + payloadLength b
+  pub sound : Sound (packetFrame (commonOf h) b)
+  pub chosen : choose (packetFrame (commonOf h) b .byte0) (packetFrame (commonOf h) b .byte7) ≡ Listed (formOf b)
+  pub shape : wellFormed (formOf b) (packetFrame (commonOf h) b) ≡ true
+  pub back : bodyIn (formOf b) (packetFrame (commonOf h) b) ≡ b
+  pub long : packetLength (formOf b) (packetFrame (commonOf h) b .dwords) ≡ payloadOffset (formOf b) + payloadLength b
 
 -- it is read as that packet
 pub framed-packet : (h : Head) (b : Body) → Framed h b
-    → packetIn (formOf b) (packetFrame (frontOf h) b) ≡ record { head = h; body = b }
+    → packetIn (formOf b) (packetFrame (commonOf h) b) ≡ record { head = h; body = b }
 framed-packet h b k =
-    ap₂ (λ (x : Head) (y : Body). record { head = x; body = y }) (ap headIn (frame-front (frontOf h) b) ∙ head-back h) (k .back)
+    ap₂ (λ (x : Head) (y : Body). record { head = x; body = y }) (ap headIn (frame-common (commonOf h) b) ∙ head-back h) (k .back)
 
 -- TR: the number that holds an address a and No Write
 module _ (a n : ℕ) (z : a % 4096 ≡ 0) (h : n ≤ 1) where
@@ -193,16 +194,16 @@ module _ (d c i : ℕ) (hd : d < 65536) (hc : c < 16) (hi : i < 512) where
       let y : (d * 65536 + c * 4096 + i) / 4096 ≡ d * 16 + c = omega arith in
       rw (p, q) (omega arith, rw y (omega arith), omega arith, omega arith)
 
--- a frame's bounds: those of its front, of bytes 0 to 3, of bytes 6 and 7, of the rest
-seat : {f : Frame} → SoundFront (f .front) →
+-- a frame's bounds: those of its common fields, of bytes 0 to 3, of bytes 6 and 7, of the rest
+seat : {f : Frame} → SoundCommon (f .common) →
     (f .byte0 < 256) × (f .at < 4) × (f .dwords < 1024) →
     (f .byte6 < 256) × (f .byte7 < 256) →
     (f .dword8 < 2 ^ 32) × (f .dword12 < 2 ^ 32) × (f .body < 2 ^ 64) →
     Sound f
-seat front start pair rest =
+seat common start pair rest =
     record {
       byte0 = start .0;
-      front = front;
+      common = common;
       at = start .1;
       dwords = start .2;
       byte6 = pair .0;
@@ -213,6 +214,9 @@ seat front start pair rest =
     }
 
 module _ (h : Head) (htc : h .tc < 8) (hs : h .sender < 65536) where
+  sound-common : SoundCommon (commonOf h)
+  sound-common = common-sound h htc hs
+
   tr-framed : (t : TranslationRequest) → bodyInRange (Tr t) ≡ true → TypedBody (Tr t) → Framed h (Tr t)
   unfolding packetFrame formOf bodyInRange TypedBody payloadLength
   tr-framed t e ty =
@@ -224,7 +228,7 @@ module _ (h : Head) (htc : h .tc < 8) (hs : h .sender < 65536) where
       let w = tr-wide (t .address) n z hn in
       let a = t .address + n in
       record {
-        sound = seat (front-sound h htc hs) (fetches (needs64Bits (t .address)) .first, lit≤ tt, ltb-true (t .dwords) 1024 (p .0)) (ty .0, lit≤ tt) (rw (x .0) (upper-lt a (tr-lt (t .address) n z hn (ty .1))), rw (x .0) (lower-lt a), lit≤ tt);
+        sound = seat sound-common (fetches (needs64Bits (t .address)) .first, lit≤ tt, ltb-true (t .dwords) 1024 (p .0)) (ty .0, lit≤ tt) (rw (x .0) (upper-lt a (tr-lt (t .address) n z hn (ty .1))), rw (x .0) (lower-lt a), lit≤ tt);
         chosen = fetches (needs64Bits (t .address)) .chosen _;
         shape = fetches (needs64Bits (t .address)) .shape _ ∙ rw (x .0, ← w) (upper-shape a true refl);
         back = fetches (needs64Bits (t .address)) .body _ ∙ rw (x .0, ← w, address-back a, x .1, x .2, bit-back (t .nowrite));
@@ -239,7 +243,7 @@ module _ (h : Head) (htc : h .tc < 8) (hs : h .sender < 65536) where
       let p = and-both (ltb dwords 1024) (eqb (a % 4) 0) e in
       let x = at-back t in
       record {
-        sound = seat (front-sound h htc hs) (fetches (needs64Bits a) .first, x .3, ltb-true dwords 1024 (p .0)) (ty .0, enables-lt dwords) (upper-lt a (ty .1), lower-lt a, lit≤ tt);
+        sound = seat sound-common (fetches (needs64Bits a) .first, x .3, ltb-true dwords 1024 (p .0)) (ty .0, enables-lt dwords) (upper-lt a (ty .1), lower-lt a, lit≤ tt);
         chosen = fetches (needs64Bits a) .chosen (byteEnables dwords);
         shape = fetches (needs64Bits a) .shape _ ∙ rw (x .0, x .1, self (byteEnables dwords)) (upper-shape a true refl);
         back = fetches (needs64Bits a) .body _ ∙ rw (x .0, x .2, address-back a, mem-word a (eqb-true (a % 4) 0 (p .1)));
@@ -249,7 +253,7 @@ module _ (h : Head) (htc : h .tc < 8) (hs : h .sender < 65536) where
       let p = and-both (ltb dwords 1024) (eqb (a % 4) 0) e in
       let x = at-back t in
       record {
-        sound = seat (front-sound h htc hs) (stores (needs64Bits a) .first, x .3, ltb-true dwords 1024 (p .0)) (lit≤ tt, enables-lt dwords) (upper-lt a (ty .1), lower-lt a, lit≤ tt);
+        sound = seat sound-common (stores (needs64Bits a) .first, x .3, ltb-true dwords 1024 (p .0)) (lit≤ tt, enables-lt dwords) (upper-lt a (ty .1), lower-lt a, lit≤ tt);
         chosen = stores (needs64Bits a) .chosen (byteEnables dwords);
         shape = stores (needs64Bits a) .shape _ ∙ rw (x .1, self (byteEnables dwords)) (upper-shape a true refl);
         back = stores (needs64Bits a) .body _ ∙ rw (x .2, address-back a, mem-word a (eqb-true (a % 4) 0 (p .1)));
@@ -266,7 +270,7 @@ module _ (h : Head) (htc : h .tc < 8) (hs : h .sender < 65536) where
       let x = cpl-bytes 0 n (lit≤ tt) (ltb-true n 4096 (p .0)) in
       let y = cpl-word d t l (ty .0) (ty .1) (ltb-true l 128 (q .0)) in
       record {
-        sound = seat (front-sound h htc hs) (lit≤ tt, lit≤ tt, ltb-true w 1024 (q .1)) (x .2, x .3) (y .3, lit≤ tt, lit≤ tt);
+        sound = seat sound-common (lit≤ tt, lit≤ tt, ltb-true w 1024 (q .1)) (x .2, x .3) (y .3, lit≤ tt, lit≤ tt);
         chosen = refl;
         shape = rw (x .0);
         back = rw (x .1, y .0, y .1, y .2);
@@ -278,7 +282,7 @@ module _ (h : Head) (htc : h .tc < 8) (hs : h .sender < 65536) where
       let x = cpl-bytes s n (ltb-true s 8 (q .1)) (ltb-true n 4096 (p .0)) in
       let y = cpl-word d t l (ty .0) (ty .1) (ltb-true l 128 (q .0)) in
       record {
-        sound = seat (front-sound h htc hs) (lit≤ tt, lit≤ tt, lit≤ tt) (x .2, x .3) (y .3, lit≤ tt, lit≤ tt);
+        sound = seat sound-common (lit≤ tt, lit≤ tt, lit≤ tt) (x .2, x .3) (y .3, lit≤ tt, lit≤ tt);
         chosen = refl;
         shape = refl;
         back = rw (x .0, x .1, y .0, y .1, y .2);
@@ -294,7 +298,7 @@ module _ (h : Head) (htc : h .tc < 8) (hs : h .sender < 65536) where
       let x = inv-word (i .address) (bitOf (i .sized)) (eqb-true (i .address % 4096) 0 (p .1)) (bit-le (i .sized)) (ty .1) in
       let d : (i .device * 65536 / 65536 ≡ i .device) × (i .device * 65536 < 2 ^ 32) = (omega arith, omega (arith, ty .0)) in
       record {
-        sound = seat (front-sound h htc hs) (lit≤ tt, lit≤ tt, lit≤ tt) (g .0, lit≤ tt) (d .1, lit≤ tt, x .2);
+        sound = seat sound-common (lit≤ tt, lit≤ tt, lit≤ tt) (g .0, lit≤ tt) (d .1, lit≤ tt, x .2);
         chosen = refl;
         shape = refl;
         back = rw (g .1, d .0, x .0, x .1, bit-back (i .sized));
@@ -309,7 +313,7 @@ module _ (h : Head) (htc : h .tc < 8) (hs : h .sender < 65536) where
       let d = device-word (i .device) (i .cc) (ty .0) g in
       let c : (i .device * 65536 + i .cc) % 8 ≡ i .cc = omega arith in
       record {
-        sound = seat (front-sound h htc hs) (lit≤ tt, lit≤ tt, lit≤ tt) (lit≤ tt, lit≤ tt) (d .1, ty .1, lit≤ tt);
+        sound = seat sound-common (lit≤ tt, lit≤ tt, lit≤ tt) (lit≤ tt, lit≤ tt) (d .1, ty .1, lit≤ tt);
         chosen = refl;
         shape = refl;
         back = rw (d .0, c);
@@ -328,7 +332,7 @@ module _ (h : Head) (htc : h .tc < 8) (hs : h .sender < 65536) where
       let a = q .page / 4096 * 4096 + i % 512 * 8 + l * 4 + w * 2 + r in
       let g = halves-lt a (x .5) in
       record {
-        sound = seat (front-sound h htc hs) (lit≤ tt, lit≤ tt, lit≤ tt) (lit≤ tt, lit≤ tt) (g .0, g .1, lit≤ tt);
+        sound = seat sound-common (lit≤ tt, lit≤ tt, lit≤ tt) (lit≤ tt, lit≤ tt) (g .0, g .1, lit≤ tt);
         chosen = refl;
         shape = refl;
         back = rw (halves a, x .0, x .1, x .2, x .3, x .4, bit-back (q .last), bit-back (q .write), bit-back (q .read));
@@ -341,7 +345,7 @@ module _ (h : Head) (htc : h .tc < 8) (hs : h .sender < 65536) where
       let p = and-both (ltb (s .code) 16) (ltb (s .index .0) 512) e in
       let x = prs-word (s .device) (s .code) (s .index .0) ty (ltb-true (s .code) 16 (p .0)) (ltb-true (s .index .0) 512 (p .1)) in
       record {
-        sound = seat (front-sound h htc hs) (lit≤ tt, lit≤ tt, lit≤ tt) (lit≤ tt, lit≤ tt) (x .3, lit≤ tt, lit≤ tt);
+        sound = seat sound-common (lit≤ tt, lit≤ tt, lit≤ tt) (lit≤ tt, lit≤ tt) (x .3, lit≤ tt, lit≤ tt);
         chosen = refl;
         shape = refl;
         back = rw (x .0, x .1, x .2);

@@ -18,7 +18,7 @@ use Rattle.packet.specs.declared.Packet.{Packet}
 use Rattle.packet.specs.Numbers.{Result, ok, refuse, check}
 use Rattle.packet.specs.Frames.{decodeFrame}
 use Rattle.packet.specs.Forms.{choose, byte0Of, packetLength, byteEnables, payloadOffset}
-use Rattle.packet.specs.Kinds.{bodyIn, packetIn, wellFormed, shortEnough, allowedBody, allowed, fieldsInRange, payloadLength, formOf, frontOf, packetFrame}
+use Rattle.packet.specs.Kinds.{bodyIn, packetIn, wellFormed, shortEnough, allowedBody, allowed, fieldsInRange, payloadLength, formOf, frameOf}
 use Rattle.packet.specs.Reading.{readForm, readChoice, reading}
 use Rattle.packet.specs.Writing.{writing, checkRoom}
 use Rattle.tlp.specs.Fields.{Typed}
@@ -173,8 +173,8 @@ module _ (f : Frame) (h : f .at < 4) where
   by-phrases CplData b s = with-data b
   by-phrases InvReq b s = invalidates b
   by-phrases InvCpl b s = rw (b, s)
-  by-phrases PageReq b s = rw b (in-class-0 (eqb (f .front .tc) 0))
-  by-phrases PrgResp b s = rw (b, s) (in-class-0 (eqb (f .front .tc) 0))
+  by-phrases PageReq b s = rw b (in-class-0 (eqb (f .common .tc) 0))
+  by-phrases PrgResp b s = rw (b, s) (in-class-0 (eqb (f .common .tc) 0))
 
 check-check : (s a z : Bool) (x : Result Packet) → (s && a) ≡ not z → check 4 s (check 4 a x) ≡ refuse 4 z x
 check-check true true true x e = no-tf e
@@ -196,14 +196,14 @@ reads-by-phrases b = ap (λ (x : Result Packet). refuse 1 (ltb (length b) 12) (r
         let f = decodeFrame b in
         let two : f .at < 4 = omega arith in
         let c = rw e at (chosen-by (f .byte0) (f .byte7)) in
-        ap (λ (x : Result Packet). check 1 (eqb (length b) (packetLength m (f .dwords))) (check 3 (eqb (f .front .marks) 0) x)) (check-check (wellFormed m f) (allowed (packetIn m f)) (forbidden f) (ok (packetIn m f)) (by-phrases f two m (c .0) (c .1)))
+        ap (λ (x : Result Packet). check 1 (eqb (length b) (packetLength m (f .dwords))) (check 3 (eqb (f .common .marks) 0) x)) (check-check (wellFormed m f) (allowed (packetIn m f)) (forbidden f) (ok (packetIn m f)) (by-phrases f two m (c .0) (c .1)))
 
 module _ (p : Packet) (ty : Typed p) where
-  allowed-by-phrases : fieldsInRange p ≡ true → allowed p ≡ not (forbidden (packetFrame (frontOf (p .head)) (p .body)))
+  allowed-by-phrases : fieldsInRange p ≡ true → allowed p ≡ not (forbidden (frameOf p))
   allowed-by-phrases w =
       let bits = and-both (ltb (p .head .tc) 8) _ w in
       let m = formOf (p .body) in
-      let f = packetFrame (frontOf (p .head)) (p .body) in
+      let f = frameOf p in
       let whole = fields (p .head) (ltb-true (p .head .tc) 8 (bits .0)) (ty .sender) (p .body) (bits .1) (ty .body) in
       let same : packetIn m f ≡ p = framed-packet (p .head) (p .body) whole in
       let c = rw (whole .chosen) at (chosen-by (f .byte0) (f .byte7)) in
@@ -212,7 +212,7 @@ module _ (p : Packet) (ty : Typed p) where
   -- and the same holds for writing
   pub writes-by-phrases : (load room : ℕ) → writing p load room ≡ writingByPhrases p load room
   unfolding writing
-  writes-by-phrases load room = byCases (fieldsInRange p) (λ w. rw (w, allowed-by-phrases w) (ap (λ (x : Result ℕ). check 12 (eqb load (payloadLength (p .body))) x) (turned (forbidden (packetFrame (frontOf (p .head)) (p .body)))))) (λ w. rw w)
+  writes-by-phrases load room = byCases (fieldsInRange p) (λ w. rw (w, allowed-by-phrases w) (ap (λ (x : Result ℕ). check 12 (eqb load (payloadLength (p .body))) x) (turned (forbidden (frameOf p))))) (λ w. rw w)
     where
       turned : (z : Bool)
           → check 4 (not z) (checkRoom (payloadOffset (formOf (p .body)) + load) room)

@@ -1,7 +1,7 @@
 -- A frame and the bytes that encode it, for all kinds.
 use Prim.Native.Nat.{ℕ, zero, suc, _+_, _*_, _/_, _%_, _<_, _≤_, _^_}
 use native.Mathlib.Omega.{arith}
-use native.Mathlib.Nat.{mod-lt, not-suc-le-zero, le-of-suc-le-suc}
+use native.Mathlib.Nat.{mod-lt, mod-eq-of-lt, not-suc-le-zero, le-of-suc-le-suc}
 use mathlib.Core.Path.{_≡_, refl, sym, ap, _∙_}
 use mathlib.Core.Bool.{Bool, true, false, cond}
 use mathlib.Core.List.{List, [], _∷_, _++_}
@@ -11,17 +11,18 @@ use borrow.Author.Tests.{le-ltb}
 use Rattle.packet.specs.declared.Frame.{Frame}
 use Rattle.packet.specs.declared.Form.{Form}
 use Rattle.packet.specs.declared.Form.the-variants.{Mrd32, Mrd64, Mwr32, Mwr64, CplNoData, CplData, InvReq, InvCpl, PageReq, PrgResp}
-use Rattle.packet.specs.Frames.{byte, num16At, num32At, num64At, attrAt, decodeFront, decodeFrame, fourBytes, encodeFrame}
+use Rattle.packet.specs.Frames.{byte, num16At, num32At, num64At, attrAt, decodeCommon, decodeFrame, fourBytes, encodeFrame}
 use Rattle.packet.specs.Forms.{payloadOffset}
 use Rattle.packet.specs.Kinds.{bodyIn, wellFormed}
 use Rattle.packet.specs.Reading.{readForm}
+use Rattle.packet.proofs.Laws.{by-fixed}
 use Rattle.tlp.specs.Bytes.{Bytes}
-use Rattle.tlp.proofs.Fronts.{SoundFront, unmarked}
+use Rattle.tlp.proofs.Common.{SoundCommon, unmarked}
 
 -- each field of a frame fits the bits that it has in the bytes
 pub record Sound (f : Frame) : Type 0 where
   pub byte0 : f .byte0 < 256
-  pub front : SoundFront (f .front)
+  pub common : SoundCommon (f .common)
   pub at : f .at < 4
   pub dwords : f .dwords < 1024
   pub byte6 : f .byte6 < 256
@@ -35,7 +36,7 @@ abbrev pub upTo : ℕ → Frame → Frame
 upTo n f =
     record {
       byte0 = f .byte0;
-      front = f .front;
+      common = f .common;
       at = f .at;
       dwords = f .dwords;
       byte6 = f .byte6;
@@ -59,19 +60,6 @@ read-upTo InvCpl f n = refl
 read-upTo PageReq f n = refl
 read-upTo PrgResp f n = refl
 
--- the fields take 12, 16 or 24 bytes
-by-fixed : (P : ℕ → Type 0) → P 12 → P 16 → P 24 → (m : Form) → P (payloadOffset m)
-by-fixed P a b c Mrd32 = a
-by-fixed P a b c Mrd64 = b
-by-fixed P a b c Mwr32 = a
-by-fixed P a b c Mwr64 = b
-by-fixed P a b c CplNoData = a
-by-fixed P a b c CplData = a
-by-fixed P a b c InvReq = c
-by-fixed P a b c InvCpl = b
-by-fixed P a b c PageReq = b
-by-fixed P a b c PrgResp = b
-
 -- ---- from a frame to bytes and back
 
 -- the number in four bytes
@@ -82,6 +70,13 @@ four-back : (n : ℕ) → n < 2 ^ 32 → fromBytes (n / 16777216 % 256) (n / 655
 four-back n h =
     let e : n / 16777216 % 256 ≡ n / 16777216 = omega arith in
     rw e (omega arith)
+
+-- Attr from bytes 1 and 2, whatever the other fields are
+attr-at : (t o a w : ℕ) → (t % 8 * 16 + o / 4 % 2 * 4) / 4 % 2 * 4 + (o % 4 * 16 + a % 4 * 4 + w / 256 % 4) / 16 % 4 ≡ o % 8
+attr-at t o a w =
+    let p : (t % 8 * 16 + o / 4 % 2 * 4) / 4 % 2 ≡ o / 4 % 2 = omega arith in
+    let q : (o % 4 * 16 + a % 4 * 4 + w / 256 % 4) / 16 % 4 ≡ o % 4 = omega arith in
+    rw (p, q) (omega arith)
 
 -- TC and the high bit of Attr in byte 1; the rest of Attr, AT and the high bits of Length in byte 2
 module _ (t o a w : ℕ) (ht : t < 8) (ho : o < 8) (ha : a < 4) (hw : w < 1024) where
@@ -97,7 +92,7 @@ module _ (t o a w : ℕ) (ht : t < 8) (ho : o < 8) (ha : a < 4) (hw : w < 1024) 
       × (byte2 / 64 ≡ 0)
       × (byte2 / 4 % 4 ≡ a)
       × (byte2 % 4 * 256 + w % 256 ≡ w)
-  bytes12-back = (omega arith, omega arith, omega arith, omega arith, omega arith)
+  bytes12-back = (omega arith, attr-at t o a w ∙ mod-eq-of-lt ho, omega arith, omega arith, omega arith)
 
 two-back : (n : ℕ) → n < 65536 → n / 256 % 256 * 256 + n % 256 ≡ n
 two-back n h = omega arith
@@ -110,7 +105,7 @@ abbrev ending : Frame → ℕ → ℕ → Frame
 ending f d b =
     record {
       byte0 = f .byte0;
-      front = f .front;
+      common = f .common;
       at = f .at;
       dwords = f .dwords;
       byte6 = f .byte6;
@@ -120,15 +115,15 @@ ending f d b =
       body = b;
     }
 
-module _ (f : Frame) (s : Sound f) (z : f .front .marks ≡ 0) where
+module _ (f : Frame) (s : Sound f) (z : f .common .marks ≡ 0) where
   -- what the first 12 bytes determine, whatever follows them
   first : (rest : List ℕ) →
       decodeFrame (take 12 (encodeFrame f) ++ rest)
       ≡ ending f (decodeFrame (take 12 (encodeFrame f) ++ rest) .dword12) (decodeFrame (take 12 (encodeFrame f) ++ rest) .body)
   unfolding decodeFrame
   first rest =
-      let b = bytes12-back (f .front .tc) (f .front .attr) (f .at) (f .dwords) (s .front .tc) (s .front .attr) (s .at) (s .dwords) in
-      simp (b .0, b .1, b .2, b .3, b .4, two-back (f .front .sender) (s .front .sender), four-back (f .dword8) (s .dword8), unmarked (f .front) z)
+      let b = bytes12-back (f .common .tc) (f .common .attr) (f .at) (f .dwords) (s .common .tc) (s .common .attr) (s .at) (s .dwords) in
+      simp (b .0, b .1, b .2, b .3, b .4, two-back (f .common .sender) (s .common .sender), four-back (f .dword8) (s .dword8), unmarked (f .common) z)
 
   abbrev Back : ℕ → List ℕ → Type 0
   Back n pay = upTo n (decodeFrame (take n (encodeFrame f) ++ pay)) ≡ upTo n f
@@ -165,18 +160,11 @@ module _ (f : Frame) (s : Sound f) (z : f .front .marks ≡ 0) where
   pub encodeFrame-back : (m : Form) (pay : List ℕ) → Back (payloadOffset m) pay
   encodeFrame-back m pay = by-fixed (λ (n : ℕ). Back n pay) (back12 pay) (back16 pay) (back24 pay) m
 
--- Attr, whatever the other fields are
-attr-at : (t o a w : ℕ) → (t % 8 * 16 + o / 4 % 2 * 4) / 4 % 2 * 4 + (o % 4 * 16 + a % 4 * 4 + w / 256 % 4) / 16 % 4 ≡ o % 8
-attr-at t o a w =
-    let p : (t % 8 * 16 + o / 4 % 2 * 4) / 4 % 2 ≡ o / 4 % 2 = omega arith in
-    let q : (o % 4 * 16 + a % 4 * 4 + w / 256 % 4) / 16 % 4 ≡ o % 4 = omega arith in
-    rw (p, q) (omega arith)
-
 pub encoded-attr : (f : Frame) (m : Form) (pay : List ℕ)
-    → attrAt (take (payloadOffset m) (encodeFrame f) ++ pay) ≡ f .front .attr % 8
+    → attrAt (take (payloadOffset m) (encodeFrame f) ++ pay) ≡ f .common .attr % 8
 encoded-attr f m pay =
-    let e = attr-at (f .front .tc) (f .front .attr) (f .at) (f .dwords) in
-    by-fixed (λ (n : ℕ). attrAt (take n (encodeFrame f) ++ pay) ≡ f .front .attr % 8) e e e m
+    let e = attr-at (f .common .tc) (f .common .attr) (f .at) (f .dwords) in
+    by-fixed (λ (n : ℕ). attrAt (take n (encodeFrame f) ++ pay) ≡ f .common .attr % 8) e e e m
 
 -- the number of bytes before the payload
 pub fixed-length : (m : Form) (f : Frame) → length (take (payloadOffset m) (encodeFrame f)) ≡ payloadOffset m
@@ -207,15 +195,15 @@ words-lt x y h = omega arith
 marks-lt : (x : ℕ) → x < 256 → x / 64 < 4
 marks-lt x h = omega arith
 
-attr-lt : (x y : ℕ) → x / 4 % 2 * 4 + y / 16 % 4 < 8
-attr-lt x y = omega arith
+attr-at-lt : (x y : ℕ) → x / 4 % 2 * 4 + y / 16 % 4 < 8
+attr-at-lt x y = omega arith
 
 pub frame-sound : (b : List ℕ) → Bytes b → Sound (decodeFrame b)
 unfolding decodeFrame
 frame-sound b h =
     record {
       byte0 = h 0;
-      front = record { tc = mod-lt (byte b 1 / 16) (lit≤ tt); attr = attr-lt (byte b 1) (byte b 2); marks = marks-lt (byte b 2) (h 2); sender = num16-lt b h 4 };
+      common = record { tc = mod-lt (byte b 1 / 16) (lit≤ tt); attr = attr-at-lt (byte b 1) (byte b 2); marks = marks-lt (byte b 2) (h 2); sender = num16-lt b h 4 };
       at = mod-lt (byte b 2 / 4) (lit≤ tt);
       dwords = words-lt (byte b 2) (byte b 3) (h 3);
       byte6 = h 6;
@@ -240,7 +228,7 @@ abbrev full : List ℕ → Frame
 full b =
     record {
       byte0 = byte b 0;
-      front = decodeFront b;
+      common = decodeCommon b;
       at = byte b 2 / 4 % 4;
       dwords = byte b 2 % 4 * 256 + byte b 3;
       byte6 = byte b 6;

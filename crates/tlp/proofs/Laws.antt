@@ -13,7 +13,7 @@ use Rattle.lemmas.proofs.Cases.{byCases, impossible}
 use Rattle.packet.specs.declared.Packet.{Packet}
 use Rattle.packet.specs.declared.Completion.{Completion}
 use Rattle.packet.specs.declared.InvalidateRequest.{InvalidateRequest}
-use Rattle.packet.specs.declared.Front.{Front}
+use Rattle.packet.specs.declared.Common.{Common}
 use Rattle.packet.specs.declared.Frame.{Frame}
 use Rattle.packet.specs.declared.Form.{Form}
 use Rattle.packet.specs.declared.Form.the-variants.{Mrd32, Mrd64, Mwr32, Mwr64, CplNoData, CplData, InvReq, InvCpl, PageReq, PrgResp}
@@ -22,7 +22,7 @@ use Rattle.packet.specs.Numbers.{ok, refusal}
 use Rattle.packet.proofs.Laws.{accepted}
 use Rattle.packet.specs.Frames.{attrAt, decodeFrame}
 use Rattle.packet.specs.Forms.{payloadOffset}
-use Rattle.packet.specs.Kinds.{codesSize, allowedBody, bodyIn, payloadLength, formOf, attrIn, attrBits, frontOf, packetFrame}
+use Rattle.packet.specs.Kinds.{codesSize, allowedBody, bodyIn, payloadLength, formOf, attrIn, attrBits, commonOf, frameOf}
 use Rattle.packet.specs.Reading.{reading, payloadIn}
 use Rattle.packet.specs.Writing.{writing, bytesOf, bufferAfter}
 use Rattle.ranges.specs.declared.Size.{Size}
@@ -30,7 +30,7 @@ use Rattle.ranges.specs.declared.Size.the-variants.{Exponent, NoSize}
 use Rattle.ranges.specs.Size.{sizeOf}
 use Rattle.ranges.proofs.Laws.{no-size}
 use Rattle.tlp.specs.Bytes.{Bytes}
-use Rattle.tlp.proofs.Fronts.{attr-lt, frame-front}
+use Rattle.tlp.proofs.Common.{attr-lt, frame-common}
 use Rattle.tlp.proofs.Frames.{Sound, frame-sound, encoded-attr}
 use Rattle.tlp.specs.Fields.{TypedBody, Typed}
 use Rattle.tlp.proofs.RoundTrips.{written-reads, written-payload, written-length, read-writes, taken, told, payload-is}
@@ -62,12 +62,12 @@ module _ (p : Packet) (payload out : List ℕ) (n : ℕ) (e : writing p (length 
     pub sent-payload : payloadIn (take n sent) ≡ payload
     sent-payload = rw sent-bytes (written-payload p payload (length out) n ty e)
 
--- its Attr is that of the packet, whether or not it can be written
+-- it has the packet's Attr, whether or not it can be written
 pub written-attr : (p : Packet) (payload : List ℕ) → attrAt (bytesOf p payload) ≡ attrBits (p .head .attr)
 unfolding bytesOf
 written-attr p payload =
-    encoded-attr (packetFrame (frontOf (p .head)) (p .body)) (formOf (p .body)) payload
-    ∙ ap (λ (f : Front). f .attr % 8) (frame-front (frontOf (p .head)) (p .body))
+    encoded-attr (frameOf p) (formOf (p .body)) payload
+    ∙ ap (λ (f : Common). f .attr % 8) (frame-common (commonOf (p .head)) (p .body))
     ∙ mod-eq-of-lt (attr-lt (p .head .attr))
 
 -- no bytes are not a packet
@@ -120,7 +120,7 @@ module _ (b : List ℕ) (p : Packet) (h : Bytes b) (e : reading b ≡ ok p) wher
       let t = told b p h e in
       let s = frame-sound b h in
       record {
-        sender = rw (← t .whole) (s .front .sender);
+        sender = rw (← t .whole) (s .common .sender);
         body = rw (← t .whole) (typed-in (t .form) (decodeFrame b) s);
       }
 

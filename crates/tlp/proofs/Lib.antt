@@ -1,4 +1,5 @@
-pub mod Fronts
+pub mod Flags
+pub mod Common
 pub mod Frames
 pub mod Fields
 pub mod Masks

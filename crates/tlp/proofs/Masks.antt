@@ -10,7 +10,7 @@ use lib.ListN.{length, drop}
 use lib.Bits.{bitAnd, and-block, and-shr, and-mod, and-zero-r, and-le-l}
 use lib.Dec.{ltb, lit≤}
 use borrow.Author.Tests.{ltb-false}
-use Rattle.packet.specs.declared.Front.{Front}
+use Rattle.packet.specs.declared.Common.{Common}
 use Rattle.packet.specs.declared.Frame.{Frame}
 use Rattle.packet.specs.Frames.{byte, num16At, num32At, num64At, attrAt, decodeFrame}
 use Rattle.packet.specs.Normal.{masked}
@@ -71,8 +71,8 @@ module _ (ms b : List ℕ) (hm : Bytes ms) (hb : Bytes b) where
 -- ---- frames
 
 -- the bitwise AND of two frames
-abbrev meetFront : Front → Front → Front
-meetFront f g =
+abbrev meetCommon : Common → Common → Common
+meetCommon f g =
     record {
       tc = bitAnd (f .tc) (g .tc);
       attr = bitAnd (f .attr) (g .attr);
@@ -84,7 +84,7 @@ abbrev pub meet : Frame → Frame → Frame
 meet f g =
     record {
       byte0 = bitAnd (f .byte0) (g .byte0);
-      front = meetFront (f .front) (g .front);
+      common = meetCommon (f .common) (g .common);
       at = bitAnd (f .at) (g .at);
       dwords = bitAnd (f .dwords) (g .dwords);
       byte6 = bitAnd (f .byte6) (g .byte6);

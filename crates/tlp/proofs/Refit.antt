@@ -15,9 +15,10 @@ use Rattle.packet.specs.declared.Outcome.the-variants.{Data, Status}
 use Rattle.packet.specs.declared.Choice.{Choice}
 use Rattle.packet.specs.declared.Choice.the-variants.{Listed, Unlisted}
 use Rattle.packet.specs.Forms.{choose, byte0Of, payloadOffset, packetLength, byteEnables}
-use Rattle.packet.specs.Kinds.{headIn, address64In, trIn, memIn, cplIn, bodyIn, accessPayloadLength, accessForm, accessTag, outcomeForm, outcomeDwords, outcomeStatus, outcomePayloadLength, outcomeInRange, wellFormedMem, wellFormedReadRequest, wellFormed, bodyInRange, payloadLength, needs64Bits, formOf, bitOf, addressDword8, addressDword12, frontOf, packetFrame}
+use Rattle.packet.specs.Kinds.{headIn, address64In, trIn, memIn, cplIn, bodyIn, accessPayloadLength, accessForm, accessTag, outcomeForm, outcomeDwords, outcomeStatus, outcomePayloadLength, outcomeInRange, wellFormedMem, wellFormedReadRequest, wellFormed, bodyInRange, payloadLength, needs64Bits, formOf, bitOf, addressDword8, addressDword12, commonOf, packetFrame}
 use Rattle.lemmas.proofs.Cases.{byCases, and-both}
-use Rattle.tlp.proofs.Fronts.{bit-of, front-back}
+use Rattle.tlp.proofs.Flags.{bit-of}
+use Rattle.tlp.proofs.Common.{common-back}
 use Rattle.tlp.proofs.Frames.{Sound, halves-is}
 use Rattle.tlp.proofs.Tidy.{keeping, tidyStatus, tidyTarget, tidy}
 
@@ -136,11 +137,14 @@ code-is x =
 -- what holds of the packet in a frame
 pub record Refit (m : Form) (f : Frame) : Type 0 where
   pub form : formOf (bodyIn m f) ≡ m
-  pub frame : packetFrame (frontOf (headIn (f .front))) (bodyIn m f) ≡ tidy m (eqb (f .at) 1) f
+  pub frame : packetFrame (commonOf (headIn (f .common))) (bodyIn m f) ≡ tidy m (eqb (f .at) 1) f
   pub within : bodyInRange (bodyIn m f) ≡ true
   pub load : payloadOffset m + payloadLength (bodyIn m f) ≡ packetLength m (f .dwords)
 
-module _ (f : Frame) (s : Sound f) (z : f .front .marks ≡ 0) where
+module _ (f : Frame) (s : Sound f) (z : f .common .marks ≡ 0) where
+  same-common : commonOf (headIn (f .common)) ≡ f .common
+  same-common = common-back (f .common) z (s .common .attr)
+
   words-fit : ltb (f .dwords) 1024 ≡ true
   words-fit = lt-ltb (f .dwords) 1024 (s .dwords)
 
@@ -158,7 +162,7 @@ module _ (f : Frame) (s : Sound f) (z : f .front .marks ≡ 0) where
   tr m a body form clean load b0 e b7 =
       record {
         form = rw (body, form);
-        frame = rw (body, clean, b0, b7, front-back (f .front) z (s .front .attr), e, form, bit-of a, page-twice a);
+        frame = rw (body, clean, b0, b7, same-common, e, form, bit-of a, page-twice a);
         within = rw (body, words-fit, page-clean a);
         load = rw (body, load);
       }
@@ -174,7 +178,7 @@ module _ (f : Frame) (s : Sound f) (z : f .front .marks ≡ 0) where
   mem m access a body form clean load b0 e b7 =
       record {
         form = rw (body, form);
-        frame = rw (body, clean, b0, b7, front-back (f .front) z (s .front .attr), form, at-is (f .at) (s .at) e);
+        frame = rw (body, clean, b0, b7, same-common, form, at-is (f .at) (s .at) e);
         within = rw (body, words-fit, mem-clean a);
         load = rw (body, load);
       }
@@ -206,7 +210,7 @@ module _ (f : Frame) (s : Sound f) (z : f .front .marks ≡ 0) where
       let low : f .dword8 % 128 < 128 = omega arith in
       record {
         form = rw (body, form);
-        frame = simp (body, clean, b0, front-back (f .front) z (s .front .attr), form, e, x .0, x .1, x .3, target-is (f .dword8));
+        frame = simp (body, clean, b0, same-common, form, e, x .0, x .1, x .3, target-is (f .dword8));
         within = rw (body, lt-ltb n 4096 (x .2), lt-ltb (f .dword8 % 128) 128 low, fits);
         load = rw (body, load);
       }
@@ -217,7 +221,7 @@ module _ (f : Frame) (s : Sound f) (z : f .front .marks ≡ 0) where
       let low : f .byte6 % 32 < 32 = omega arith in
       record {
         form = refl;
-        frame = simp (b0, b7, front-back (f .front) z (s .front .attr), e, bit-of (f .body / 2048), size-is (f .body));
+        frame = simp (b0, b7, same-common, e, bit-of (f .body / 2048), size-is (f .body));
         within = simp (lt-ltb (f .byte6 % 32) 32 low, page-clean (f .body));
         load = simp e;
       }
@@ -228,7 +232,7 @@ module _ (f : Frame) (s : Sound f) (z : f .front .marks ≡ 0) where
       let low : f .dword8 % 8 < 8 = omega arith in
       record {
         form = refl;
-        frame = simp (b0, b7, front-back (f .front) z (s .front .attr));
+        frame = simp (b0, b7, same-common);
         within = simp (lt-ltb (f .dword8 % 8) 8 low);
         load = refl;
       }
@@ -241,7 +245,7 @@ module _ (f : Frame) (s : Sound f) (z : f .front .marks ≡ 0) where
       let g = halves-is (f .dword8) (f .dword12) (s .dword12) in
       record {
         form = refl;
-        frame = simp (b0, b7, front-back (f .front) z (s .front .attr), bit-of (a / 4), bit-of (a / 2), bit-of a, page-is a, g .0, g .1);
+        frame = simp (b0, b7, same-common, bit-of (a / 4), bit-of (a / 2), bit-of a, page-is a, g .0, g .1);
         within = simp (page-clean a, lt-ltb (a / 8 % 512) 512 low);
         load = refl;
       }
@@ -254,7 +258,7 @@ module _ (f : Frame) (s : Sound f) (z : f .front .marks ≡ 0) where
       let low : d % 512 < 512 = omega arith in
       record {
         form = refl;
-        frame = simp (b0, b7, front-back (f .front) z (s .front .attr), code-is d);
+        frame = simp (b0, b7, same-common, code-is d);
         within = simp (lt-ltb (d / 4096 % 16) 16 hi, lt-ltb (d % 512) 512 low);
         load = refl;
       }

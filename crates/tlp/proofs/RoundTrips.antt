@@ -9,7 +9,7 @@ use lib.Seq.{drop-at}
 use lib.Dec.{ltb, eqb}
 use borrow.Author.Tests.{ltb-false, eqb-true, lt-ltb, le-ltb, eq-eqb}
 use Rattle.packet.specs.declared.Packet.{Packet}
-use Rattle.packet.specs.declared.Front.{Front}
+use Rattle.packet.specs.declared.Common.{Common}
 use Rattle.packet.specs.declared.Frame.{Frame}
 use Rattle.packet.specs.declared.Form.{Form}
 use Rattle.packet.specs.declared.Choice.{Choice}
@@ -17,13 +17,13 @@ use Rattle.packet.specs.declared.Choice.the-variants.{Listed, Unlisted}
 use Rattle.packet.specs.Numbers.{Result, ok, refusal, refuse}
 use Rattle.packet.specs.Frames.{byte, decodeFrame, encodeFrame}
 use Rattle.packet.specs.Forms.{choose, payloadOffset, packetLength}
-use Rattle.packet.specs.Kinds.{headIn, wellFormed, bodyIn, packetIn, fieldsInRange, allowed, payloadLength, formOf, frontOf, packetFrame}
+use Rattle.packet.specs.Kinds.{headIn, wellFormed, bodyIn, packetIn, allowed, payloadLength, formOf, commonOf, packetFrame, frameOf}
 use Rattle.packet.specs.Reading.{readForm, readFrame, readChoice, reading, payloadIn}
 use Rattle.packet.specs.Writing.{writing, bytesOf, bufferAfter}
 use Rattle.packet.specs.Normal.{maskOf, masked, normalAs, normal}
 use Rattle.packet.proofs.Laws.{check-passed, refuse-passed, ok-injective, Accepted, accepted}
 use Rattle.tlp.specs.Bytes.{Bytes}
-use Rattle.tlp.proofs.Fronts.{frame-front}
+use Rattle.tlp.proofs.Common.{frame-common}
 use Rattle.tlp.proofs.Frames.{upTo, read-upTo, encodeFrame-back, fixed-length, fixed-low, frame-sound, encodeFrame-upTo}
 use Rattle.tlp.specs.Fields.{Typed}
 use Rattle.tlp.proofs.Fields.{Framed, framed-packet, fields, longest}
@@ -53,10 +53,10 @@ unfolding decodeFrame
 read-by-form b m n e = ap (λ (c : Choice). readChoice c (decodeFrame b) n) e
 
 -- a frame that passes each test is read as its packet
-read-whole : (m : Form) (f : Frame) (n : ℕ) → n ≡ packetLength m (f .dwords) → f .front .marks ≡ 0 → wellFormed m f ≡ true
+read-whole : (m : Form) (f : Frame) (n : ℕ) → n ≡ packetLength m (f .dwords) → f .common .marks ≡ 0 → wellFormed m f ≡ true
     → allowed (packetIn m f) ≡ true → readForm m f n ≡ ok (packetIn m f)
 unfolding readForm
-read-whole m f n l z s a = rw (eq-eqb n (packetLength m (f .dwords)) l, eq-eqb (f .front .marks) 0 z, s, a)
+read-whole m f n l z s a = rw (eq-eqb n (packetLength m (f .dwords)) l, eq-eqb (f .common .marks) 0 z, s, a)
 
 pub written-length : (p : Packet) (payload : List ℕ) (room n : ℕ) → writing p (length payload) room ≡ ok n
     → length (bytesOf p payload) ≡ n
@@ -70,15 +70,15 @@ module _ (p : Packet) (payload : List ℕ) (room n : ℕ) (ty : Typed p) (e : wr
   seated : Framed (p .head) (p .body)
   seated = fields (p .head) (passed .tc) (ty .sender) (p .body) (passed .body) (ty .body)
 
-  unmarked : packetFrame (frontOf (p .head)) (p .body) .front .marks ≡ 0
-  unmarked = ap (λ (f : Front). f .marks) (frame-front (frontOf (p .head)) (p .body))
+  no-marks : frameOf p .common .marks ≡ 0
+  no-marks = ap (λ (f : Common). f .marks) (frame-common (commonOf (p .head)) (p .body))
 
   -- the first fields of a written packet are those of its frame
   upTo-back : upTo (payloadOffset (formOf (p .body))) (decodeFrame (bytesOf p payload))
-      ≡ upTo (payloadOffset (formOf (p .body))) (packetFrame (frontOf (p .head)) (p .body))
+      ≡ upTo (payloadOffset (formOf (p .body))) (frameOf p)
   unfolding bytesOf
   upTo-back =
-      encodeFrame-back (packetFrame (frontOf (p .head)) (p .body)) (seated .sound) unmarked (formOf (p .body)) payload
+      encodeFrame-back (frameOf p) (seated .sound) no-marks (formOf (p .body)) payload
 
   -- bytes 0 and 7 select the form of the packet
   pub kind-of-written : choose (byte (bytesOf p payload) 0) (byte (bytesOf p payload) 7) ≡ Listed (formOf (p .body))
@@ -92,7 +92,7 @@ module _ (p : Packet) (payload : List ℕ) (room n : ℕ) (ty : Typed p) (e : wr
   written-reads =
       let b = bytesOf p payload in
       let m = formOf (p .body) in
-      let f = packetFrame (frontOf (p .head)) (p .body) in
+      let f = frameOf p in
       let low = fixed-low m in
       let high = longest (p .head .tc) (p .body) (passed .allows) in
       let len : length b ≡ payloadOffset m + payloadLength (p .body) = written-length p payload room n e ∙ sym (passed .long) ∙ ap (λ (k : ℕ). payloadOffset m + k) (passed .fills) in
@@ -104,14 +104,14 @@ module _ (p : Packet) (payload : List ℕ) (room n : ℕ) (ty : Typed p) (e : wr
       ∙ sym (read-upTo m (decodeFrame b) (length b))
       ∙ ap (λ (x : Frame). readForm m x (length b)) upTo-back
       ∙ read-upTo m f (length b)
-      ∙ read-whole m f (length b) (len ∙ sym (seated .long)) unmarked (seated .shape) (ap allowed same ∙ passed .allows)
+      ∙ read-whole m f (length b) (len ∙ sym (seated .long)) no-marks (seated .shape) (ap allowed same ∙ passed .allows)
       ∙ ap ok same
 
   pub written-payload : payloadIn (bytesOf p payload) ≡ payload
   unfolding payloadIn bytesOf
   written-payload =
       let m = formOf (p .body) in
-      let f = packetFrame (frontOf (p .head)) (p .body) in
+      let f = frameOf p in
       let low = fixed-low m in
       let l = written-length p payload room n e in
       let h : 12 ≤ length (bytesOf p payload) = omega (arith, passed .long) in
@@ -151,7 +151,7 @@ pub record Taken (b : List ℕ) (p : Packet) : Type 0 where
   pub low : 12 ≤ length b
   pub chosen : choose (byte b 0) (byte b 7) ≡ Listed form
   pub long : length b ≡ packetLength form (decodeFrame b .dwords)
-  pub marks : decodeFrame b .front .marks ≡ 0
+  pub marks : decodeFrame b .common .marks ≡ 0
   pub shape : wellFormed form (decodeFrame b) ≡ true
   pub allows : allowed p ≡ true
   pub whole : packetIn form (decodeFrame b) ≡ p
@@ -164,7 +164,7 @@ module _ (b : List ℕ) (p : Packet) (low : 12 ≤ length b) where
   taken-as (Listed m) q e =
       let f = decodeFrame b in
       let p1 = check-passed (eqb (length b) (packetLength m (f .dwords))) 1 _ e in
-      let p2 = check-passed (eqb (f .front .marks) 0) 3 _ (p1 .1) in
+      let p2 = check-passed (eqb (f .common .marks) 0) 3 _ (p1 .1) in
       let p3 = check-passed (wellFormed m f) 4 _ (p2 .1) in
       let p4 = check-passed (allowed (packetIn m f)) 4 (ok (packetIn m f)) (p3 .1) in
       let same = ok-injective (p4 .1) in
@@ -173,7 +173,7 @@ module _ (b : List ℕ) (p : Packet) (low : 12 ≤ length b) where
         low = low;
         chosen = q;
         long = eqb-true (length b) (packetLength m (f .dwords)) (p1 .0);
-        marks = eqb-true (f .front .marks) 0 (p2 .0);
+        marks = eqb-true (f .common .marks) 0 (p2 .0);
         shape = p3 .0;
         allows = ap allowed (sym same) ∙ p4 .0;
         whole = same;
@@ -186,7 +186,7 @@ taken b p e =
     let p2 = refuse-passed (ltb 144 (length b)) 1 (readFrame (decodeFrame b) (length b)) (p1 .1) in
     taken-as b p (ltb-false (length b) 12 (p1 .0)) (choose (byte b 0) (byte b 7)) refl (p2 .1)
 
-marks-is : (b : List ℕ) → decodeFrame b .front .marks ≡ 0 → byte b 2 / 64 ≡ 0
+marks-is : (b : List ℕ) → decodeFrame b .common .marks ≡ 0 → byte b 2 / 64 ≡ 0
 unfolding decodeFrame
 marks-is b z = z
 
@@ -219,7 +219,7 @@ module _ (b : List ℕ) (p : Packet) (h : Bytes b) (e : reading b ≡ ok p) wher
       let sum = sum-is in
       let len = masked-length (maskOf m u) b in
       let fits : n ≤ length c = omega arith in
-      let front : take n (encodeFrame (packetFrame (frontOf (headIn (f .front))) (bodyIn m f))) ≡ take n c =
+      let front : take n (encodeFrame (packetFrame (commonOf (headIn (f .common))) (bodyIn m f))) ≡ take n c =
       ap (λ (x : Frame). take n (encodeFrame x)) (refitted .frame ∙ sym (tidy-frame b h m u))
       ∙ encodeFrame-upTo c (under-bytes b h m u) (under-1 b h m u) (under-2 b h m u (marks-is b (told .marks))) m fits in
       let rest : payloadIn b ≡ drop n c = payload-is ∙ sym (rw (mask m u .long) at (masked-drop (maskOf m u) b)) in
@@ -236,7 +236,7 @@ module _ (b : List ℕ) (p : Packet) (h : Bytes b) (e : reading b ≡ ok p) wher
       let d = length-drop (payloadOffset m) b in
       let load : length (payloadIn b) ≡ payloadLength (bodyIn m f) = rw (payload-is, d) (omega arith) in
       let wide : payloadOffset m + length (payloadIn b) ≡ length b = rw load sum in
-      let tc = lt-ltb (f .front .tc) 8 (frame-sound b h .front .tc) in
+      let tc = lt-ltb (f .common .tc) 8 (frame-sound b h .common .tc) in
       let a : allowed (packetIn m f) ≡ true = ap allowed (told .whole) ∙ told .allows in
       let all : writing (packetIn m f) (length (payloadIn b)) room ≡ ok (length b) =
       rw (tc, refitted .within, eq-eqb (length (payloadIn b)) (payloadLength (bodyIn m f)) load, a, refitted .form, wide, le-ltb room (length b) k) in

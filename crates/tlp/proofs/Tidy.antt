@@ -6,10 +6,10 @@ use mathlib.Core.Path.{_≡_, refl, sym, ap, ap₂, _∙_}
 use mathlib.Core.Bool.{Bool, true, false, cond, _&&_}
 use mathlib.Core.List.{List, [], _∷_}
 use lib.ListN.{length}
-use lib.Bits.{bitAnd, and-block, and-mask, and-mod, and-zero-r, and-le-l, and-le-r}
+use lib.Bits.{bitAnd, and-block, and-mask, and-zero-r, and-le-l}
 use lib.Pow.{pow-pos}
-use lib.Dec.{ltb, leb, eqb, lit≤}
-use borrow.Author.Tests.{ltb-true, leb-true, eqb-true}
+use lib.Dec.{ltb, eqb, lit≤}
+use borrow.Author.Tests.{ltb-true, eqb-true}
 use Rattle.packet.specs.declared.Frame.{Frame}
 use Rattle.packet.specs.declared.Form.{Form}
 use Rattle.packet.specs.declared.Form.the-variants.{Mrd32, Mrd64, Mwr32, Mwr64, CplNoData, CplData, InvReq, InvCpl, PageReq, PrgResp}
@@ -43,7 +43,7 @@ abbrev pub keeping : Frame → ℕ → ℕ → ℕ → ℕ → ℕ → ℕ → F
 keeping f at dwords byte6 dword8 dword12 body =
     record {
       byte0 = f .byte0;
-      front = f .front;
+      common = f .common;
       at = at;
       dwords = dwords;
       byte6 = byte6;
@@ -99,14 +99,14 @@ mask-size : (x : ℕ) → x < 2 ^ 64 → bitAnd x 0xFFFFFFFFFFFFF800 ≡ x / 204
 mask-size x h = parted 53 11 0 x (lit≤ tt) ∙ omega arith
 
 -- TC and the high bit of Attr
-mask-front : (x : ℕ) → bitAnd x 0x74 ≡ x / 16 % 8 * 16 + x / 4 % 2 * 4
-mask-front x =
+mask-byte1 : (x : ℕ) → bitAnd x 0x74 ≡ x / 16 % 8 * 16 + x / 4 % 2 * 4
+mask-byte1 x =
     ap (λ (y : ℕ). bitAnd y 0x74) (sym (div-add-mod' x 16))
     ∙ and-block 4 (x / 16) 7 (x % 16) 4 (mod-lt x (lit≤ tt)) (lit≤ tt)
     ∙ ap₂ (λ (y z : ℕ). y * 16 + z) (and-mask (x / 16) 3) (parted 1 2 0 (x % 16) (lit≤ tt) ∙ omega arith)
 
-front-kept : (t o : ℕ) → t < 8 → o < 2 → (t * 16 + o * 4) / 16 % 8 * 16 + (t * 16 + o * 4) / 4 % 2 * 4 ≡ t * 16 + o * 4
-front-kept t o ht ho =
+byte1-kept : (t o : ℕ) → t < 8 → o < 2 → (t * 16 + o * 4) / 16 % 8 * 16 + (t * 16 + o * 4) / 4 % 2 * 4 ≡ t * 16 + o * 4
+byte1-kept t o ht ho =
     let p : (t * 16 + o * 4) / 16 % 8 ≡ t = omega arith in
     let q : (t * 16 + o * 4) / 4 % 2 ≡ o = omega arith in
     rw (p, q)
@@ -119,14 +119,14 @@ module _ (f : Frame) (s : Sound f) where
   all0 : bitAnd (f .byte0) 0xFF ≡ f .byte0
   all0 = whole 8 (f .byte0) (s .byte0)
 
-  all-tc : bitAnd (f .front .tc) 7 ≡ f .front .tc
-  all-tc = whole 3 (f .front .tc) (s .front .tc)
+  all-tc : bitAnd (f .common .tc) 7 ≡ f .common .tc
+  all-tc = whole 3 (f .common .tc) (s .common .tc)
 
-  all-attr : bitAnd (f .front .attr) 7 ≡ f .front .attr
-  all-attr = whole 3 (f .front .attr) (s .front .attr)
+  all-attr : bitAnd (f .common .attr) 7 ≡ f .common .attr
+  all-attr = whole 3 (f .common .attr) (s .common .attr)
 
-  all-marks : bitAnd (f .front .marks) 3 ≡ f .front .marks
-  all-marks = whole 2 (f .front .marks) (s .front .marks)
+  all-marks : bitAnd (f .common .marks) 3 ≡ f .common .marks
+  all-marks = whole 2 (f .common .marks) (s .common .marks)
 
   all-at : bitAnd (f .at) 3 ≡ f .at
   all-at = whole 2 (f .at) (s .at)
@@ -134,8 +134,8 @@ module _ (f : Frame) (s : Sound f) where
   all-words : bitAnd (f .dwords) 0x3FF ≡ f .dwords
   all-words = whole 10 (f .dwords) (s .dwords)
 
-  all-sender : bitAnd (f .front .sender) 0xFFFF ≡ f .front .sender
-  all-sender = whole 16 (f .front .sender) (s .front .sender)
+  all-sender : bitAnd (f .common .sender) 0xFFFF ≡ f .common .sender
+  all-sender = whole 16 (f .common .sender) (s .common .sender)
 
   all6 : bitAnd (f .byte6) 0xFF ≡ f .byte6
   all6 = whole 8 (f .byte6) (s .byte6)
@@ -180,7 +180,8 @@ bytes-below [] e i = lit≤ tt
 bytes-below (x ∷ xs) e zero = ltb-true x 256 (and-both (ltb x 256) (below xs) e .0)
 bytes-below (x ∷ xs) e (suc i) = bytes-below xs (and-both (ltb x 256) (below xs) e .1) i
 
--- what the masks of every form have in common: n bytes; only TC and Attr in byte 1, all of bytes 0 and 7
+-- what the masks of every form have in common: n bytes; in byte 1 only TC and the high bit of Attr; all of bytes 0
+-- and 7
 pub record Mask (n : ℕ) (ms : List ℕ) : Type 0 where
   pub bytes : Bytes ms
   pub long : length ms ≡ n
@@ -325,8 +326,8 @@ module _ (b : List ℕ) (h : Bytes b) (m : Form) (t : Bool) where
   pub under-1 : byte under 1 / 16 % 8 * 16 + byte under 1 / 4 % 2 * 4 ≡ byte under 1
   under-1 =
       let x = byte b 1 in
-      let e : byte under 1 ≡ x / 16 % 8 * 16 + x / 4 % 2 * 4 = under-at 1 (lit≤ tt) ∙ ap (bitAnd x) (mask m t .byte1) ∙ mask-front x in
-      rw e (front-kept (x / 16 % 8) (x / 4 % 2) (mod-lt (x / 16) (lit≤ tt)) (mod-lt (x / 4) (lit≤ tt)))
+      let e : byte under 1 ≡ x / 16 % 8 * 16 + x / 4 % 2 * 4 = under-at 1 (lit≤ tt) ∙ ap (bitAnd x) (mask m t .byte1) ∙ mask-byte1 x in
+      rw e (byte1-kept (x / 16 % 8) (x / 4 % 2) (mod-lt (x / 16) (lit≤ tt)) (mod-lt (x / 4) (lit≤ tt)))
 
   pub under-2 : byte b 2 / 64 ≡ 0 → byte under 2 < 64
   under-2 z = let e = under-at 2 (lit≤ tt) in let p = and-le-l (byte b 2) (byte (maskOf m t) 2) in rw e (omega arith)

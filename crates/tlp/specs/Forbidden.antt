@@ -11,7 +11,7 @@ use Rattle.packet.specs.declared.Packet.{Packet}
 use Rattle.packet.specs.Numbers.{Result, ok, refusal, refuse, check}
 use Rattle.packet.specs.Frames.{decodeFrame}
 use Rattle.packet.specs.Forms.{choose, packetLength, payloadOffset}
-use Rattle.packet.specs.Kinds.{packetIn, fieldsInRange, payloadLength, formOf, frontOf, packetFrame}
+use Rattle.packet.specs.Kinds.{packetIn, fieldsInRange, payloadLength, formOf, frameOf}
 use Rattle.packet.specs.Writing.{checkRoom}
 
 -- ---- the kinds, determined by byte 0, byte 7 and AT
@@ -76,7 +76,7 @@ abbrev pub invLength : Frame → Bool
 invLength f = isInv f && not (eqb (f .dwords) 2)
 
 abbrev pub pageTrafficClass : Frame → Bool
-pageTrafficClass f = isPage f && not (eqb (f .front .tc) 0)
+pageTrafficClass f = isPage f && not (eqb (f .common .tc) 0)
 
 abbrev pub status010 : Frame → Bool
 status010 f = isCompletion f && eqb (statusIn f) 2
@@ -107,7 +107,7 @@ forbidden f =
 abbrev pub readListed : Choice → Frame → ℕ → Result Packet
 readListed (Listed m) f n =
     check 1 (eqb n (packetLength m (f .dwords)))
-    (check 3 (eqb (f .front .marks) 0)
+    (check 3 (eqb (f .common .marks) 0)
     (refuse 4 (forbidden f)
     (ok (packetIn m f))))
 readListed Unlisted f n = refusal 2
@@ -124,5 +124,5 @@ abbrev pub writingByPhrases : Packet → ℕ → ℕ → Result ℕ
 writingByPhrases p load room =
     check 12 (fieldsInRange p)
     (check 12 (eqb load (payloadLength (p .body)))
-    (refuse 4 (forbidden (packetFrame (frontOf (p .head)) (p .body)))
+    (refuse 4 (forbidden (frameOf p))
     (checkRoom (payloadOffset (formOf (p .body)) + load) room)))

@@ -2,10 +2,10 @@
 use packet::Access;
 use packet::Attr;
 use packet::Body;
+use packet::Common;
 use packet::Completion;
 use packet::Form;
 use packet::Frame;
-use packet::Front;
 use packet::Head;
 use packet::InvalidateCompletion;
 use packet::InvalidateRequest;
@@ -21,7 +21,7 @@ ghost use Prim.Native.Nat.{_≤_};
 ghost use Rattle.packet.specs.declared.Body.the-variants.{Tr, Mem, Cpl, Inv, Ic, Prq, Prs};
 ghost use Rattle.packet.specs.declared.Form.the-variants.{Mrd32, Mrd64, Mwr32, Mwr64};
 ghost use Rattle.packet.specs.Forms.{byte0Of};
-ghost use Rattle.packet.specs.Kinds.{needs64Bits, accessForm, outcomeForm, formOf, bitOf, addressDword8, addressDword12, accessTag, outcomeDwords, outcomeStatus, attrBits, frontOf, packetFrame};
+ghost use Rattle.packet.specs.Kinds.{needs64Bits, accessForm, outcomeForm, formOf, bitOf, addressDword8, addressDword12, accessTag, outcomeDwords, outcomeStatus, attrBits, commonOf, packetFrame};
 
 fn bit(b: bool) -> u8
     ensures { λ r. ⌜ (r ≡ bitOf b) × (r ≤ 1) ⌝ }
@@ -125,13 +125,13 @@ fn address_dword12(a: u64) -> u32
     }
 }
 
-fn tr(front: Front, t: TranslationRequest) -> Frame
-    ensures { λ r. ⌜ r ≡ packetFrame front (Tr t) ⌝ }
+fn tr(common: Common, t: TranslationRequest) -> Frame
+    ensures { λ r. ⌜ r ≡ packetFrame common (Tr t) ⌝ }
 {
     let a = t.address / 4096 * 4096 + bit(t.nowrite) as u64;
     Frame {
         byte0: byte0(read_form(t.address)),
-        front,
+        common,
         at: 1,
         dwords: t.dwords,
         byte6: t.tag.0,
@@ -151,13 +151,13 @@ fn access_tag(a: Access) -> u8
     }
 }
 
-fn mem(front: Front, m: MemoryRequest) -> Frame
-    ensures { λ r. ⌜ r ≡ packetFrame front (Mem m) ⌝ }
+fn mem(common: Common, m: MemoryRequest) -> Frame
+    ensures { λ r. ⌜ r ≡ packetFrame common (Mem m) ⌝ }
 {
     let access = m.access;
     Frame {
         byte0: byte0(access_form(access, m.address)),
-        front,
+        common,
         at: bit(m.translated) * 2,
         dwords: m.dwords,
         byte6: access_tag(access),
@@ -186,13 +186,13 @@ fn outcome_status(o: Outcome) -> u8
     }
 }
 
-fn cpl(front: Front, c: Completion) -> Frame
-    ensures { λ r. ⌜ r ≡ packetFrame front (Cpl c) ⌝ }
+fn cpl(common: Common, c: Completion) -> Frame
+    ensures { λ r. ⌜ r ≡ packetFrame common (Cpl c) ⌝ }
 {
     let outcome = c.outcome;
     Frame {
         byte0: byte0(outcome_form(outcome)),
-        front,
+        common,
         at: 0,
         dwords: outcome_dwords(outcome),
         byte6: outcome_status(outcome) % 8 * 32 + (c.count / 256 % 16) as u8,
@@ -203,12 +203,12 @@ fn cpl(front: Front, c: Completion) -> Frame
     }
 }
 
-fn inv(front: Front, i: InvalidateRequest) -> Frame
-    ensures { λ r. ⌜ r ≡ packetFrame front (Inv i) ⌝ }
+fn inv(common: Common, i: InvalidateRequest) -> Frame
+    ensures { λ r. ⌜ r ≡ packetFrame common (Inv i) ⌝ }
 {
     Frame {
         byte0: 0x72,
-        front,
+        common,
         at: 0,
         dwords: 2,
         byte6: i.itag.0,
@@ -219,12 +219,12 @@ fn inv(front: Front, i: InvalidateRequest) -> Frame
     }
 }
 
-fn ic(front: Front, i: InvalidateCompletion) -> Frame
-    ensures { λ r. ⌜ r ≡ packetFrame front (Ic i) ⌝ }
+fn ic(common: Common, i: InvalidateCompletion) -> Frame
+    ensures { λ r. ⌜ r ≡ packetFrame common (Ic i) ⌝ }
 {
     Frame {
         byte0: 0x32,
-        front,
+        common,
         at: 0,
         dwords: 0,
         byte6: 0,
@@ -235,8 +235,8 @@ fn ic(front: Front, i: InvalidateCompletion) -> Frame
     }
 }
 
-fn prq(front: Front, q: PageRequest) -> Frame
-    ensures { λ r. ⌜ r ≡ packetFrame front (Prq q) ⌝ }
+fn prq(common: Common, q: PageRequest) -> Frame
+    ensures { λ r. ⌜ r ≡ packetFrame common (Prq q) ⌝ }
 {
     let a = q.page / 4096 * 4096
         + q.index.0 as u64 % 512 * 8
@@ -245,7 +245,7 @@ fn prq(front: Front, q: PageRequest) -> Frame
         + bit(q.read) as u64;
     Frame {
         byte0: 0x30,
-        front,
+        common,
         at: 0,
         dwords: 0,
         byte6: 0,
@@ -256,12 +256,12 @@ fn prq(front: Front, q: PageRequest) -> Frame
     }
 }
 
-fn prs(front: Front, s: PrgResponse) -> Frame
-    ensures { λ r. ⌜ r ≡ packetFrame front (Prs s) ⌝ }
+fn prs(common: Common, s: PrgResponse) -> Frame
+    ensures { λ r. ⌜ r ≡ packetFrame common (Prs s) ⌝ }
 {
     Frame {
         byte0: 0x32,
-        front,
+        common,
         at: 0,
         dwords: 0,
         byte6: 0,
@@ -278,12 +278,12 @@ fn attr_bits(a: Attr) -> u8
     bit(a.ido) * 4 + bit(a.relaxed) * 2 + bit(a.nosnoop)
 }
 
-// The front of a packet with this head.
-fn front(h: Head) -> Front
-    ensures { λ r. ⌜ r ≡ frontOf h ⌝ }
+// The common fields of a packet with this head.
+fn common(h: Head) -> Common
+    ensures { λ r. ⌜ r ≡ commonOf h ⌝ }
 {
     let attr = h.attr;
-    Front {
+    Common {
         tc: h.tc,
         attr: attr_bits(attr),
         marks: 0,
@@ -293,16 +293,16 @@ fn front(h: Head) -> Front
 
 // The frame of a packet.
 pub(crate) fn packet_frame(h: Head, body: Body) -> Frame
-    ensures { λ r. ⌜ r ≡ packetFrame (frontOf h) body ⌝ }
+    ensures { λ r. ⌜ r ≡ packetFrame (commonOf h) body ⌝ }
 {
-    let front = front(h);
+    let common = common(h);
     match body {
-        Body::Tr(t) => tr(front, t),
-        Body::Mem(m) => mem(front, m),
-        Body::Cpl(c) => cpl(front, c),
-        Body::Inv(i) => inv(front, i),
-        Body::Ic(i) => ic(front, i),
-        Body::Prq(q) => prq(front, q),
-        Body::Prs(s) => prs(front, s),
+        Body::Tr(t) => tr(common, t),
+        Body::Mem(m) => mem(common, m),
+        Body::Cpl(c) => cpl(common, c),
+        Body::Inv(i) => inv(common, i),
+        Body::Ic(i) => ic(common, i),
+        Body::Prq(q) => prq(common, q),
+        Body::Prs(s) => prs(common, s),
     }
 }

@@ -3,10 +3,7 @@
 mod frames;
 mod limits;
 
-use packet::Body;
-use packet::Form;
 use packet::Frame;
-use packet::Head;
 use packet::Packet;
 use packet::Refusal;
 use packet::Writing;
@@ -24,14 +21,14 @@ ghost use Rattle.packet.specs.Writing.{writeResult, bytesOf, checkRoom, writing
 fn encode_frame(f: Frame) -> [u8; 24]
     ensures { λ r. ⌜ r ≡ encodeFrame f ⌝ }
 {
-    let front = f.front;
+    let common = f.common;
     [
         f.byte0,
-        front.tc % 8 * 16 + front.attr / 4 % 2 * 4,
-        front.attr % 4 * 16 + f.at % 4 * 4 + (f.dwords / 256 % 4) as u8,
+        common.tc % 8 * 16 + common.attr / 4 % 2 * 4,
+        common.attr % 4 * 16 + f.at % 4 * 4 + (f.dwords / 256 % 4) as u8,
         (f.dwords % 256) as u8,
-        (front.sender / 256 % 256) as u8,
-        (front.sender % 256) as u8,
+        (common.sender / 256 % 256) as u8,
+        (common.sender % 256) as u8,
         f.byte6,
         f.byte7,
         (f.dword8 / 16777216 % 256) as u8,

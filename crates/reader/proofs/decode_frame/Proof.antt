@@ -6,8 +6,8 @@ use Rattle.reader.proofs.decode_frame.Tie as tie
 shared-slice-read-t3 : tie.Need-shared-slice-read-t3
 shared-slice-read-t3 c = search needs
 
-decode-front-requires : tie.Need-decode-front-requires
-decode-front-requires c κs = search needs
+decode-common-requires : tie.Need-decode-common-requires
+decode-common-requires c κs = search needs
 
 shared-slice-read-t6 : tie.Need-shared-slice-read-t6
 shared-slice-read-t6 c = search needs
@@ -32,14 +32,14 @@ body-requires c κs = search needs
 
 returns : tie.Need-returns
 unfolding decodeFrame
-returns c = simp (c .body .ensures, c .before .dword12 .ensures, c .before .before .num32 .ensures, c .before .before .before .before .before .dwords .ensures, c .before .before .before .before .before .before .before .decode-front .ensures)
+returns c = simp (c .body .ensures, c .before .dword12 .ensures, c .before .before .num32 .ensures, c .before .before .before .before .before .dwords .ensures, c .before .before .before .before .before .before .before .decode-common .ensures)
 
 pub decode-frame-spec : {M : Type 1} → statement M
 decode-frame-spec =
     tie.close
     (tie.spec
     shared-slice-read-t3
-    decode-front-requires
+    decode-common-requires
     shared-slice-read-t6
     dwords-requires
     shared-slice-read-t11

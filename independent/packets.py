@@ -33,7 +33,7 @@ CODES = {0x72: (0x01,), 0x32: (0x02, 0x05), 0x30: (0x04,)}
 
 @dataclass(frozen=True)
 class Attr:
-    """The Attr bits: byte 1 bit 2, byte 2 bit 5, byte 2 bit 4."""
+    """Attr: bit 2 of byte 1, then bits 5 and 4 of byte 2."""
     id_based: int = 0   # ID-based ordering
     relaxed: int = 0    # Relaxed Ordering
     no_snoop: int = 0

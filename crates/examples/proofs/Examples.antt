@@ -12,6 +12,7 @@ use Rattle.packet.specs.Numbers.{ok, refusal, Result}
 use Rattle.packet.specs.Frames.{fourBytes}
 use Rattle.packet.specs.Kinds.{attrZero}
 use Rattle.packet.specs.Reading.{reading}
+use Rattle.packet.specs.SameButAttr.{SameButAttr}
 use Rattle.packet.specs.Writing.{bytesOf, writing}
 use Rattle.lister.specs.Line.{lineRead, lineText}
 use Rattle.rows.specs.Rows.{outLine}
@@ -196,6 +197,10 @@ examples =
     ∷ reading (pageBytes 0x308B_2F00) is ok (pageRequest relaxedOrdering)
     ∷ bytesOf (pageRequest relaxedOrdering) [] is pageBytes 0x3000_2000
     ∷ []
+
+-- packets that differ in Attr, in all three bits, and in nothing else: those of which `AttrDecidesNothing` speaks
+pub differ-in-attr : SameButAttr (pageBytes 0x3000_0000) (pageBytes 0x3004_3000)
+differ-in-attr = record { long = refl; byte0 = refl; byte1 = (refl, refl); byte2 = (refl, refl); rest = refl }
 
 pub examples-hold : Hold examples
 unfolding computed allHex unhex decimal decimalIn lineRead lineText outLine

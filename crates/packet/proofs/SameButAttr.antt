@@ -51,36 +51,24 @@ module _ (f : Frame) (attr : ℕ) where
         body = f .body;
       }
 
-  same-body : (m : Form) → bodyIn m withAttr ≡ bodyIn m f
-  unfolding bodyIn
-  same-body Mrd32 = refl
-  same-body Mrd64 = refl
-  same-body Mwr32 = refl
-  same-body Mwr64 = refl
-  same-body CplNoData = refl
-  same-body CplData = refl
-  same-body InvReq = refl
-  same-body InvCpl = refl
-  same-body PageReq = refl
-  same-body PrgResp = refl
-
-  same-shape : (m : Form) → wellFormed m withAttr ≡ wellFormed m f
-  unfolding wellFormed
-  same-shape Mrd32 = refl
-  same-shape Mrd64 = refl
-  same-shape Mwr32 = refl
-  same-shape Mwr64 = refl
-  same-shape CplNoData = refl
-  same-shape CplData = refl
-  same-shape InvReq = refl
-  same-shape InvCpl = refl
-  same-shape PageReq = refl
-  same-shape PrgResp = refl
+  -- no kind looks at it
+  same-kind : (m : Form) → (bodyIn m withAttr ≡ bodyIn m f) × (wellFormed m withAttr ≡ wellFormed m f)
+  unfolding bodyIn wellFormed
+  same-kind Mrd32 = (refl, refl)
+  same-kind Mrd64 = (refl, refl)
+  same-kind Mwr32 = (refl, refl)
+  same-kind Mwr64 = (refl, refl)
+  same-kind CplNoData = (refl, refl)
+  same-kind CplData = (refl, refl)
+  same-kind InvReq = (refl, refl)
+  same-kind InvCpl = (refl, refl)
+  same-kind PageReq = (refl, refl)
+  same-kind PrgResp = (refl, refl)
 
   same-form : (m : Form) (n : ℕ) → attrCleared (readForm m withAttr n) ≡ attrCleared (readForm m f n)
   unfolding readForm
   same-form m n =
-      rw (same-body m, same-shape m)
+      rw (same-kind m .0, same-kind m .1)
       (same-test (eqb n (packetLength m (f .dwords))) 1 _ _
       (same-test (eqb (f .common .marks) 0) 3 _ _
       (same-test (wellFormed m f) 4 _ _

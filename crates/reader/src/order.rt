@@ -15,10 +15,11 @@ pub(crate) fn read_form(m: Form, f: Frame, n: usize) -> Reading
 {
     let expected = forms::length_of(m, f.dwords);
     let common = f.common;
+    let marks = common.marks;
     if n != expected {
         return Reading::Refused(Refusal::BadLength);
     }
-    if common.marks != 0 {
+    if marks != 0 {
         return Reading::Refused(Refusal::PoisonedOrDigest);
     }
     if forms::is_well_formed(m, f) {

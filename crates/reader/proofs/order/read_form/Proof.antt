@@ -13,7 +13,7 @@ returns c = rw (← c .before .before .length-of .ensures) (search cases depth 1
 
 returns-2 : tie.Need-returns-2
 unfolding readForm
-returns-2 c = rw (← c .before .before .before .before .length-of .ensures) (search cases depth 14)
+returns-2 c = rw (← c .before .before .before .length-of .ensures) (search cases depth 14)
 
 is-well-formed-requires : tie.Need-is-well-formed-requires
 is-well-formed-requires c κs = search needs
@@ -30,17 +30,17 @@ head-requires c κs = search needs
 returns-3 : tie.Need-returns-3
 unfolding readForm
 returns-3 c = let k = c .before .before .before .before .before in
-    rw (← k .before .before .before .before .before .length-of .ensures, ← k .is-well-formed .ensures, ← c .before .before .before .fields .ensures, ← c .before .before .is-allowed .ensures, c .head .ensures) (search cases depth 14)
+    rw (← k .before .before .before .before .length-of .ensures, ← k .is-well-formed .ensures, ← c .before .before .before .fields .ensures, ← c .before .before .is-allowed .ensures, c .head .ensures) (search cases depth 14)
 
 returns-4 : tie.Need-returns-4
 unfolding readForm
 returns-4 c = let k = c .before .before .before .before in
-    rw (← k .before .before .before .before .before .length-of .ensures, ← k .is-well-formed .ensures, ← c .before .before .fields .ensures, ← c .before .is-allowed .ensures) (search cases depth 14)
+    rw (← k .before .before .before .before .length-of .ensures, ← k .is-well-formed .ensures, ← c .before .before .fields .ensures, ← c .before .is-allowed .ensures) (search cases depth 14)
 
 returns-5 : tie.Need-returns-5
 unfolding readForm
 returns-5 c = let k = c .before in
-    rw (← k .before .before .before .before .before .length-of .ensures, ← k .is-well-formed .ensures) (search cases depth 14)
+    rw (← k .before .before .before .before .length-of .ensures, ← k .is-well-formed .ensures) (search cases depth 14)
 
 pub read-form-spec : {M : Type 1} → statement M
 read-form-spec =

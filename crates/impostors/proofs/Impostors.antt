@@ -51,17 +51,21 @@ use Rattle.demands.proofs.Views.{no-entry}
 use Rattle.demands.proofs.Invalidates.{held-entry}
 use Rattle.card.proofs.Computed.{computed}
 
--- the card with another step
-abbrev cardBy : (Function → Call → Observed) → Machine observer
-cardBy g =
+-- the card with another step, which shows other entries
+abbrev cardShowing : (Function → ℕ → Option Cached) → (Function → Call → Observed) → Machine observer
+cardShowing shows g =
     record {
       State = Function;
       new = fresh 0 0 (rcbOf 64);
       state = λ f c. g f c .state;
       answer = λ f c. let r = g f c in record { answer = r .answer; sent = r .sent };
       buffer = λ f c. g f c .buffer;
-      held = heldIn;
+      held = shows;
     }
+
+-- the card with another step
+abbrev cardBy : (Function → Call → Observed) → Machine observer
+cardBy = cardShowing heldIn
 
 abbrev honest : Function → Call → Observed
 honest f c = step f (c .command) (c .bytes) (c .out)
@@ -260,15 +264,7 @@ mumbler f c = let r = honest f c in by (delivered c) r r r (withBuffer r (set (r
 
 -- it keeps what it should delete, and shows an empty cache
 abbrev shadowCard : Machine observer
-shadowCard =
-    record {
-      State = Function;
-      new = fresh 0 0 (rcbOf 64);
-      state = λ f c. keeper f c .state;
-      answer = λ f c. let r = keeper f c in record { answer = r .answer; sent = r .sent };
-      buffer = λ f c. keeper f c .buffer;
-      held = λ f j. none;
-    }
+shadowCard = cardShowing (λ f j. none) keeper
 
 -- it ends a read when at least the bytes that are due have come
 abbrev overfed : Function → Call → Observed
@@ -323,15 +319,7 @@ tombs f j =
     cond (entryAt (f .cache) j .used) (some (record { stu = f .stu; entry = buried (entryAt (f .cache) j) })) none
 
 abbrev tombsCard : Machine observer
-tombsCard =
-    record {
-      State = Function;
-      new = fresh 0 0 (rcbOf 64);
-      state = λ f c. keeper f c .state;
-      answer = λ f c. let r = keeper f c in record { answer = r .answer; sent = r .sent };
-      buffer = λ f c. keeper f c .buffer;
-      held = tombs;
-    }
+tombsCard = cardShowing tombs keeper
 
 -- ---- three with more state than a Function
 

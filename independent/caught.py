@@ -16,12 +16,13 @@ from multiprocessing import get_context
 
 import calls
 import function
+import host
 import packets
 import wrong_cards
 
 WANTED = 2
 PROCESSES = 2
-MODULES = {"": function, "packets": packets, "calls": calls}
+MODULES = {"": function, "packets": packets, "calls": calls, "host": host}
 # Changed here, a card may hide its mistake: it plays every line.
 EVERY_LINE = ("__init__", "pages_off", "_close_pages")
 ALWAYS_SHOWN = ("slots", "tags", "id", "stu", "rcb", "enabled", "agent",

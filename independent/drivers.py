@@ -1,6 +1,6 @@
 """What each kind of test file asks, one line in, one line out.
 
-    python3 drivers.py packets|calls < stdin > stdout
+    python3 drivers.py packets|calls|walks < stdin > stdout
 
 packets: by the line's first letter, R: a packet in hex -> its field record
 (records.py tells the form) and the packet written again; W: a field record ->
@@ -8,15 +8,20 @@ the packet and what the lent buffer holds after it; S: an 8-byte word -> base,
 log2 of the size, N U W R. A refusal is BAD and its number, and for W the whole
 lent buffer. calls: a call of the Function -> what it answers, sends and
 becomes (calls.py tells the form); the lines are given one after another to the
-same Function, new at the first.
+same Function, new at the first. walks: a record (walks.py tells the form) ->
+"-" if it changes the table; else what the host sent, T or S for a translation
+or status 100, how many entries were read, the packet and what the lent buffer
+holds after it, or a refusal as for W.
 """
 
 import sys
 
 import calls
+import host
 import listing
 import packets
 import records
+import walks
 
 
 def hex_of(data):
@@ -72,8 +77,39 @@ def packet_layer(line):
     return LETTERS[line[:1]](line[1:])
 
 
-# The last one has a state: the Function that its lines are given to.
-DRIVERS = {"packets": packet_layer, "calls": calls.Script().answer}
+class Walks:
+    """The host's table, at first of no entry, and the lines it is given."""
+
+    def __init__(self):
+        self.table = []
+
+    def answer(self, line):
+        """The answer to one line, both without line feed."""
+        code, values, packet = walks.parse(line)
+        if code == walks.FRESH:
+            self.table = [0] * values[0]
+            return "-"
+        if code == walks.PUT:
+            index, value = values
+            if index >= len(self.table):
+                raise ValueError("no entry %d" % index)
+            self.table[index] = value
+            return "-"
+        host_id, room = values
+        buffer = lent(room)
+        got = host.translate_into(host_id, packet, self.table, buffer)
+        if isinstance(got, int):
+            return "BAD\t%d\t%s" % (got, hex_of(buffer))
+        end = len(got.packet)
+        return "%s\t%d\t%s\t%s" % (
+            "T" if got.sent == "translation" else "S", len(got.visits),
+            hex_of(buffer[:end]), hex_of(buffer[end:]))
+
+
+# The last two have a state: the Function and the table that their lines are
+# given to.
+DRIVERS = {"packets": packet_layer, "calls": calls.Script().answer,
+           "walks": Walks().answer}
 
 if __name__ == "__main__":
     drive = DRIVERS[sys.argv[1]]

@@ -1,14 +1,15 @@
 """Write the test files: python3 generate.py DIR
 
 Makes listing, packets (reading, writing and sizes, one after the other),
-calls, and hand, which is one long run of calls for a new Function; each a
-.stdin and a .stdout, the same bytes each time. Every case made
+calls, hand, which is one long run of calls for a new Function, and walks, the
+host's; each a .stdin and a .stdout, the same bytes each time. Every case made
 to show a certain number is checked to show it; size-codes.tsv is checked row
-by row; the fixed scripts of calls are checked step by step. Prints how often
-each number and kind came up and, for the calls, each number and answer, and
+by row; the fixed scripts of calls are checked step by step, and those walks
+whose answer was worked out. Prints how often each number and kind came up and,
+for the calls, each number and answer, for the walks, each end and level, and
 how often each Attr; exits with 1 if one that can occur never did, or one that
-cannot did. Nothing that the Function sends may have an Attr bit, and no line
-of the listing may depend on one.
+cannot did. Nothing that the Function or the host sends may have an Attr bit,
+and no line of the listing may depend on one.
 """
 
 import io
@@ -22,6 +23,7 @@ import cases_calls
 import cases_listing
 import cases_reading
 import cases_sizes
+import cases_walks
 import cases_writing
 import drivers
 import listing
@@ -30,10 +32,13 @@ import reached
 import reached_attr
 import reached_order
 import reached_roles
+import reached_walks
 import records
+import walks
 from rng import Rng
 
 SEED = 5                        # of the script of calls
+WALKS_SEED = 6                  # of the script of walks
 # No forbidden value can be put into an Invalidate Completion.
 CANNOT = (("IC", "4"),)
 NUMBERS = {"listing": ("ok", "0", "1", "2", "3", "4"),
@@ -41,7 +46,7 @@ NUMBERS = {"listing": ("ok", "0", "1", "2", "3", "4"),
            "writing": ("ok", "12", "4", "17")}
 # In and out, in thousand bytes.
 LARGEST = {"listing": (400, 400), "packets": (750, 1200),
-           "calls": (650, 900), "hand": (300, 300)}
+           "calls": (650, 900), "hand": (300, 300), "walks": (900, 600)}
 
 
 def check(want, got, line):
@@ -142,6 +147,27 @@ def make_calls(cases, tally=None):
     return b"".join(asked), b"".join(answered)
 
 
+def make_walks(cases, tally):
+    """(stdin, stdout) of the host; each question is asked with room too."""
+    asked, answered = [], []
+    script = drivers.Walks()
+    for line, want in cases:
+        text = script.answer(line)
+        check(want, text, line)
+        asked.append(line + b"\n")
+        answered.append(text.encode("ascii") + b"\n")
+        code, values, packet = walks.parse(line)
+        if code != walks.ASK:
+            continue
+        host_id, room = values
+        ample = script.answer(walks.line_of(walks.record(
+            walks.ASK, host_id, walks.MOST_ROOM, packet=packet)))
+        tally.add(script.table, room, packet, text, ample)
+        if text[0] in "TS":
+            reached_attr.sent_clear(bytes.fromhex(text.split("\t")[2]))
+    return b"".join(asked), b"".join(answered)
+
+
 def show(counts, totals):
     """Print the table; the list of what is missing."""
     missing = []
@@ -176,6 +202,8 @@ def main(directory):
     files["packets"] = make_packets(counts, attrs)
     files["calls"] = make_calls(cases_calls.cases(Rng(SEED)), tally)
     files["hand"] = make_calls(cases_calls.long_run())
+    walked = reached_walks.Walks()
+    files["walks"] = make_walks(cases_walks.cases(Rng(WALKS_SEED)), walked)
 
     # The stream form of the listing must say the same, in blocks of any size.
     for block in (1, 7, 4096):
@@ -199,10 +227,10 @@ def main(directory):
         totals[name] = answered.count(b"\n"), len(asked), len(answered)
     missing = show(counts, totals)
     print(attrs.line())
-    for line in tally.table():
+    for line in [*tally.table(), *walked.table()]:
         print(line)
     faults = ["never seen: %s, %s, %s" % cell for cell in missing]
-    faults += [*attrs.faults(), *tally.faults()]
+    faults += [*attrs.faults(), *tally.faults(), *walked.faults()]
     for line in faults:
         print(line)
     return 1 if faults else 0

@@ -6,7 +6,9 @@ is told by the masks and not by the writer. For the Function: examples 3, 4, 5,
 8 and 9, cases worked out by hand, the form of its scripts, that no refused
 call changes anything, and that the script of calls catches every wrong card.
 Of Attr: that reading, writing and the records keep it, and that nothing the
-Function or the listing does depends on it.
+Function or the listing does depends on it. For the host: walks worked out by
+hand, the walk told another way, what a walk depends on and what its reply
+says, the form of its scripts, and that they catch every wrong translator.
 """
 
 import io
@@ -18,10 +20,12 @@ sys.dont_write_bytecode = True
 import calls
 import cases_calls
 import cases_reading
+import cases_walks
 import cases_writing
 import caught
 import drivers
 import generate
+import host
 import listing
 import masks
 import packets
@@ -29,10 +33,13 @@ import reached
 import reached_attr
 import reached_order
 import reached_roles
+import reached_walks
 import records
 import samples
 import scripts_calls
+import walks
 import wrong_cards
+import wrong_walks
 from function import (OFF, ON, STOPPED, Entry, Function, Group, OpenRead,
                       OpenTr, Outcome)
 from packets import (ATTRS, NO_ATTR, Attr, Cpl, CplData, Ic, Inv, MemRead,
@@ -761,11 +768,359 @@ def rows():
          ([("15", "12")], 14, False))
 
 
+# --- the host -------------------------------------------------------------
+
+HOST = 0xABCD
+
+
+def tables(count, **entries):
+    """So many tables with these entries, by names like t1_5."""
+    table = [0] * (512 * count)
+    for name, value in entries.items():
+        number, index = name[1:].split("_")
+        table[512 * int(number) + int(index)] = value
+    return table
+
+
+# Root entry 3, then 4, 5, 6: address 3 << 39 | 4 << 30 | 5 << 21 | 6 << 12.
+PATH = tables(4, t0_3=0x1003, t1_4=0x2003, t2_5=0x3003,
+              t3_6=0x000123456789A003)
+# As it is, but for the last entry of each size, and all bits without a name.
+NOISY = tables(4, t0_3=0xFFF0000000001FFF, t1_4=0xFFF0000000002F7F,
+               t2_5=0xFFF0000000003F7F, t3_6=0xFFFFFFFFFFFFFFFF)
+GIB = tables(2, t0_3=0x1003, t1_4=0xABCDEFEDCBA98F83)
+MIB = tables(3, t0_3=0x1003, t1_4=0x2003, t2_5=0xABCDEFEDCBA98F83)
+AT = "00000181 00A06000"
+WIDE = "20000402 010005FF " + AT
+WIDE_NO_WRITE = "20500420 BEEFA7FF 00000181 00A06001"
+# From the root's entry 0 on: 00A06000h is of 32 bits.
+LOW = tables(4, t0_0=0x3002, t3_0=0x1003, t1_5=0x2003, t2_6=0x7006)
+T, S = "translation", "status"
+
+# Table, packet, room, then the refusal, or what is sent and what was read.
+HOST_BY_HAND = (
+    (PATH, WIDE, 20, T, "4A000002 ABCD0008 01000578 00012345 6789A003",
+     ((0, 3), (1, 4), (2, 5), (3, 6))),
+    (PATH, WIDE_NO_WRITE, 64, T,
+     "4A500002 ABCD0008 BEEFA778 00012345 6789A001",
+     ((0, 3), (1, 4), (2, 5), (3, 6))),
+    (NOISY, WIDE, 20, T, "4A000002 ABCD0008 01000578 000FFFFF FFFFF003",
+     ((0, 3), (1, 4), (2, 5), (3, 6))),
+    # Bits 51:30 of ABCDEFEDCBA98F83h are DEFEDC0000000h.
+    (GIB, WIDE, 20, T, "4A000002 ABCD0008 01000578 000DEFED DFFFF803",
+     ((0, 3), (1, 4))),
+    (MIB, WIDE, 20, T, "4A000002 ABCD0008 01000578 000DEFED CBAFF803",
+     ((0, 3), (1, 4), (2, 5))),
+    (LOW, "00700402 010005FF 00A06000", 20, T,
+     "4A700002 ABCD0008 01000578 00000000 00007002",
+     ((0, 0), (3, 0), (1, 5), (2, 6))),
+    (LOW, "00700402 010005FF 00A06001", 20, T,
+     "4A700002 ABCD0008 01000578 00000000 00000000",
+     ((0, 0), (3, 0), (1, 5), (2, 6))),
+    # Above 48 bits, with nothing lent; below, 12 bytes are enough.
+    ([], "20300420 010005FF 00010000 00000000", 20, T,
+     "4A300002 ABCD0008 01000578 00000000 00000000", ()),
+    ([], "20300420 010005FF 00010000 00000000", 19, 17),
+    ([], "20300420 010005FF 0000FFFF FFFFF000", 12, S,
+     "0A300000 ABCD8080 01000500", ()),
+    ([], "20300420 010005FF 0000FFFF FFFFF000", 11, 17),
+    ([], "00300402 010005FF 00000000", 19, S,
+     "0A300000 ABCD8008 01000500", ()),
+    # Cut inside, at each of the tables.
+    (PATH[:511], WIDE, 12, S, "0A000000 ABCD8008 01000500", ()),
+    (PATH[:1023], WIDE, 12, S, "0A000000 ABCD8008 01000500", ((0, 3),)),
+    (PATH[:1535], WIDE, 12, S, "0A000000 ABCD8008 01000500",
+     ((0, 3), (1, 4))),
+    (PATH[:2047], WIDE_NO_WRITE, 12, S, "0A500000 ABCD8080 BEEFA700",
+     ((0, 3), (1, 4), (2, 5))),
+    # Neither right; R above and W below.
+    (tables(1, t0_3=0xFFFFFFFFFFFFFFFC), WIDE, 20, T,
+     "4A000002 ABCD0008 01000578 00000000 00000000", ((0, 3),)),
+    (tables(2, t0_3=0x1001, t1_4=0x2002), WIDE, 20, S,
+     "0A000000 ABCD8008 01000500", ((0, 3), (1, 4))),
+    (tables(2, t0_3=0x1001, t1_4=0x40000082), WIDE, 20, T,
+     "4A000002 ABCD0008 01000578 00000000 00000000", ((0, 3), (1, 4))),
+    # The root all the way: its entry 0 leads to itself, bit 7 ends it.
+    (tables(1, t0_0=0x0003), "00000402 010005FF 00000000", 20, T,
+     "4A000002 ABCD0008 01000578 00000000 00000003", ((0, 0),) * 4),
+    (tables(1, t0_0=0x0083), "00000402 010005FF 00000000", 20, T,
+     "4A000002 ABCD0008 01000578 00000000 1FFFF803", ((0, 0),) * 2),
+    # Refused, in order.
+    (PATH, "20000402 010005FF 000181", 64, 1),
+    (PATH, "01000402 010005FF 00000181", 64, 2),
+    (PATH, "20000402 010005FF 00000181", 64, 1),
+    (PATH, "20008402 010005FF " + AT, 64, 3),
+    (PATH, "20000403 010005FF " + AT, 0, 4),
+    (PATH, "20000002 010005FF " + AT, 0, 2),
+    (PATH, "30000000 01000004 00000000 0020301D", 0, 2),
+    (PATH, WIDE, 12, 17),
+)
+
+
+def host_by_hand():
+    """Walks and replies worked out by hand."""
+    for table, text, room, *want in HOST_BY_HAND:
+        packet, before = bytes.fromhex(text), list(table)
+        got = host.translate(HOST, packet, table, room)
+        if len(want) > 1:
+            want = [host.Outcome(want[0], bytes.fromhex(want[1]), want[2])]
+        same("translated " + text, got, want[0])
+        same("table", table, before)
+        buffer = drivers.lent(room)
+        same("again", host.translate_into(HOST, packet, table, buffer), got)
+        sent = b"" if isinstance(got, int) else got.packet
+        same("buffer", buffer, sent + drivers.lent(room)[len(sent):])
+
+
+def walked(table, number, shift, address, wish):
+    """The walk told another way: (rights or None, last entry, shift, count).
+
+    wish has the rights that may still be given.
+    """
+    whole = table[512 * number:512 * number + 512]
+    if len(whole) < 512:
+        return None, 0, shift, 0
+    entry = whole[address // 2 ** shift % 512]
+    if entry % 4 == 0:
+        return 0, entry, shift, 1
+    if shift == 12 or (shift < 39 and entry // 128 % 2 == 1):
+        return entry & wish, entry, shift, 1
+    rights, last, end, count = walked(
+        table, entry % 2 ** 52 // 4096, shift - 9, address, entry & wish)
+    return rights, last, end, count + 1
+
+
+def told(table, request):
+    """(size of the page or None for status 100, base, rights, count)."""
+    if request.address // 2 ** 48:
+        return 12, 0, 0, 0
+    rights, entry, shift, count = walked(
+        table, 0, 39, request.address, 1 if request.no_write else 3)
+    if rights is None:
+        return None, 0, 0, count
+    if rights == 0:
+        return 12, 0, 0, count
+    return shift, entry % 2 ** 52 // 2 ** shift * 2 ** shift, rights, count
+
+
+def check_reply(table, host_id, request, outcome):
+    """What the readings name, read back from a reply."""
+    shift, base, rights, count = told(table, request)
+    same("count", (len(outcome.visits), count <= 4), (count, True))
+    fields = read(outcome.packet)
+    if shift is None:
+        same("aborted", (outcome.sent, fields), ("status", Cpl(
+            request.tc, host_id, 4, 4 * request.length, request.sender,
+            request.tag, 0)))
+        return
+    same("replied", (outcome.sent, fields), ("translation", CplData(
+        request.tc, host_id, 2, 8, request.sender, request.tag, 120)))
+    word = int.from_bytes(packets.payload_of(fields, outcome.packet), "big")
+    same("page", (size(word), word & 0x7FF), ((base, shift), rights))
+    same("S", word >> 11 & 1, int(shift > 12))
+    if request.no_write:
+        same("no W", word & 2, 0)
+    if rights == 0:
+        same("null", word, 0)
+
+
+def host_script():
+    """(table, host's ID, room, packet) of each question of the script."""
+    script = drivers.Walks()
+    for line, _ in cases_walks.cases(Rng(generate.WALKS_SEED)):
+        code, values, packet = walks.parse(line)
+        if code == walks.ASK:
+            yield script.table, *values, packet
+        else:
+            script.answer(line)
+
+
+def host_replies():
+    """Every question of the script, against the walk told another way."""
+    for table, host_id, room, packet in host_script():
+        got = host.translate(host_id, packet, table, room)
+        request = read(packet)
+        if not isinstance(request, Tr):
+            same("refused", got, request if isinstance(request, int) else 2)
+            continue
+        due = 12 if told(table, request)[0] is None else 20
+        if room < due:
+            same("short", got, 17)
+        else:
+            check_reply(table, host_id, request, got)
+
+
+NAMED_BITS = 0x000FFFFFFFFFF083     # R, W, bit 7, 51:12
+
+
+def host_depends():
+    """Unvisited entries and unnamed bits change nothing; named bits may."""
+    rng = Rng(78)
+    junk = []
+    for at, (table, host_id, _, packet) in enumerate(host_script()):
+        if at % 8 or len(packet) > 16 or not isinstance(read(packet), Tr):
+            continue
+        got = host.translate(host_id, packet, table, 64)
+        visited = {512 * number + index for number, index in got.visits}
+        if len(table) != len(junk):
+            junk = [rng.bits(64) for _ in table]
+        other = list(junk)
+        for place in visited:
+            other[place] = table[place]
+        same("not visited", host.translate(host_id, packet, other, 64), got)
+        for place in visited:
+            other[place] = (table[place] & NAMED_BITS
+                            | rng.bits(64) & ~NAMED_BITS)
+        same("not named", host.translate(host_id, packet, other, 64), got)
+        for code in range(8):
+            same("Attr", host.translate(
+                host_id, masks.with_attr(packet, code), table, 64), got)
+        form = "TR64" if packet[0] else "TR32"
+        same("ignored", host.translate(host_id, masks.with_ignored(
+            form, packet, rng.data(16)), table, 64), got)
+
+
+def host_and_function():
+    """What the host replies to a Function with STU 0, the Function takes."""
+    rng = Rng(80)
+    for at, (table, host_id, _, packet) in enumerate(host_script()):
+        request = read(packet)
+        if at % 4 or not isinstance(request, Tr):
+            continue
+        f = ready(rcb=rng.pick((64, 128)))
+        page = request.address
+        cached(f, page, 0x5003)
+        units = rng.between(1, min(f.rcb // 8, (2 ** 64 - page) // 4096))
+        asked = f.ask(page + rng.bits(12), units, request.no_write, 16)
+        got = host.translate(host_id, asked.packet, table, 20)
+        shift, base, rights, _ = told(table, request)
+        answer, want = "filled", []
+        if shift is None:
+            answer, want = "aborted", [Entry(page, 0x5000, 1, 1, 0, 0)]
+        elif rights:
+            # A large page fills all units that were asked for inside it.
+            left = (2 ** shift - page % 2 ** shift) // 4096
+            want = [Entry(unit, base + unit % 2 ** shift, rights & 1,
+                          rights >> 1, 0, 0)
+                    for unit in range(page, page + 4096 * min(units, left),
+                                      4096)]
+        same("answer", f.receive(got.packet).answer, answer)
+        same("entries", [slot for slot in f.slots if slot], want)
+        same("tags", f.tags, [None] * 32)
+
+
+def host_total():
+    """Any bytes, any table, any room: an outcome or a refusal."""
+    rng = Rng(79)
+    for _ in range(2000):
+        table = [rng.bits(64) for _ in range(rng.pick((0, 3, 512, 600)))]
+        packet = rng.pick((samples.noisy(rng, rng.pick(samples.FORMS)),
+                           rng.data(rng.below(30)),
+                           samples.noisy(rng, "TR64")))
+        room = rng.below(30)
+        buffer = drivers.lent(room)
+        got = host.translate_into(rng.bits(16), packet, table, buffer)
+        if isinstance(got, int):
+            same("number", got in (1, 2, 3, 4, 17), True)
+            same("untouched", buffer, drivers.lent(room))
+        else:
+            same("room", (len(buffer), len(got.packet) <= room),
+                 (room, True))
+
+
+def walks_form():
+    """Records of walks and their answer lines."""
+    script = drivers.Walks()
+    ask = "03ABCD%04X00000402010005FF00203000"
+    for line, want in (
+            (ask % 12, "S\t0\t0A000000ABCD800801000500\t"),
+            (ask % 14, "S\t0\t0A000000ABCD800801000500\tF3F2"),
+            (ask % 2, "BAD\t17\tFFFE"),
+            ("010200", "-"),
+            (ask % 20, "T\t1\t4A000002ABCD000801000578" + "0" * 16 + "\t"),
+            ("0200000000000000000003", "-"),
+            ("0200010000000040000083", "-"),
+            ("0200030000000080000003", "-"),
+            # Root entry 0 three times, then entry 1 and 3 for 203000h.
+            (ask % 21, "T\t3\t4A000002ABCD000801000578"
+             "00000000400FF803\tEB"),
+            ("03ABCD0000", "BAD\t1\t"),
+            ("011000", "-"), ("020FFF0000000000000001", "-"),
+            ("010000", "-"),
+            (ask % 12, "S\t0\t0A000000ABCD800801000500\t")):
+        same("line " + line, script.answer(line.encode()), want)
+    same("record", walks.record(walks.PUT, 0x123, 0x456).hex(),
+         "0201230000000000000456")
+    same("driver", drivers.DRIVERS["walks"]((ask % 12).encode()),
+         "S\t0\t0A000000ABCD800801000500\t")
+    for line in (b"", b"0", b"00", b"04", b"01", b"0100", b"01000000",
+                 b"011001", b"0200000000000000000003", b"03ABCD",
+                 b"03ABCD0041", b"0100 00", b"03abcd0000",
+                 b"03ABCD0000" + b"00" * 252):
+        try:
+            script.answer(line)
+            same("taken %r" % line, True, False)
+        except ValueError:
+            same("no record", True, True)
+
+
+def walks_counted():
+    """What the generator asks of the walks."""
+    tally = reached_walks.Walks()
+    same("nothing yet", len(list(tally.faults())), len(tally.seen))
+    packet = bytes.fromhex(WIDE)
+    for table, want in (
+            (PATH, {"4 KiB, granted RW, No Write 0", "T, count 4"}),
+            (GIB, {"1 GiB, granted RW, No Write 0", "bit 7 at level 2"}),
+            (PATH[:600], {"missing, level 2", "cut inside, level 2"}),
+            ([], {"missing, level 1", "S, count 0"}),
+            (tables(1, t0_3=0x3), {"loop to the root, level 2"})):
+        got = host.translate(HOST, packet, table, 20)
+        seen = set(reached_walks.Walks.answered(
+            table, 20, packet, got.sent[0].upper(), len(got.visits),
+            got.packet))
+        same("situations", seen & want, want)
+    for text in ("4A000002 ABCD0008 01000578", "32000000 00080003 01000000",
+                 "00000801 0100050F 00203000", "00"):
+        packet = bytes.fromhex(text)
+        got = read(packet)
+        same("refusal", reached_walks.refusal(
+            got if isinstance(got, int) else 2, packet) in tally.seen, True)
+    for what in (lambda: tally.count("cleared, level 1"),
+                 lambda: tally.count_short(20, "T"),
+                 lambda: tally.count_short(12, "S")):
+        try:
+            what()
+            same("not noticed", True, False)
+        except AssertionError:
+            same("noticed", True, True)
+
+
+def wrong_hosts():
+    """The script catches every wrong translator, and not the right one."""
+    lines = [line for line, _ in cases_walks.cases(Rng(generate.WALKS_SEED))]
+    script = drivers.Walks()
+    right = [script.answer(line) for line in lines]
+    every = wrong_walks.translators()
+    for name, sentence, where, text in every:
+        places = wrong_walks.catches(where, text, lines, right, caught.WANTED)
+        same("caught by %d lines: %s: %s" % (len(places), name, sentence),
+             len(places) >= caught.WANTED, True)
+    for where, text in wrong_walks.FUNCTIONS.items():
+        same("the right one", wrong_walks.catches(where, text, lines, right),
+             [])
+    same("by hand", len(wrong_walks.WRITTEN) >= 180, True)
+    print("wrong translators: %d, each caught by %d lines or more"
+          % (len(every), caught.WANTED))
+
+
 for part in (examples, by_hand, over_long, round_trips,
              attr_kept, attr_caught, lent_buffers, lines,
              function_examples, new_and_reset, switches, fills, two_packets,
              reads_and_itags, page_groups, script_form, refusals, rows,
-             attr_counts, attr_decides_nothing, wrong):
+             attr_counts, attr_decides_nothing, host_by_hand, host_replies,
+             host_depends, host_and_function, host_total, walks_form,
+             walks_counted, wrong_hosts, wrong):
     part()
 for text in failed[:20]:
     print(text)

@@ -91,39 +91,10 @@ all-ones (suc k) y e =
     go : y % 2 ≡ 1 → y / 2 % 2 ^ k ≡ 2 ^ k - 1 → y % 2 ^ suc k ≡ 2 ^ suc k - 1
     go o r = rw (← add-one k, mod-pow-add y k 1, r, o, pow-add 2 k 1) (omega (arith, pow-pos k))
 
--- the address that encodes a base and a size of 2 ^ e bytes, with S set
-abbrev pub coded : ℕ → ℕ → ℕ
-coded base e = base + (2 ^ (e - 1) - 4096)
-
--- shifted by 12, it has e - 13 trailing ones
-coded-shape : (n q : ℕ) → coded (q * 2 ^ (n + 13)) (n + 13) ≡ (q * 2 ^ suc n + (2 ^ n - 1)) * 4096
-coded-shape n q =
-    let a : n + 13 - 1 ≡ n + 12 = omega arith in
-    let b : 2 ^ (n + 13) ≡ 2 ^ suc n * 4096 = rw (← add-one n) (ap (λ (k : ℕ). 2 ^ k) (same n) ∙ pow-add 2 (n + 1) 12) in
-    rw (a, pow-add 2 n 12, b, ← mul-assoc q (2 ^ suc n) 4096) (omega (arith, pow-pos n))
-  where
-    same : (n : ℕ) → n + 13 ≡ n + 1 + 12
-    same n = omega arith
-
--- every size from 8192 bytes to 2 ^ 64 is decoded as it was encoded
-pub coded-size : (n q : ℕ) → n < 52 → sizeOf (coded (q * 2 ^ (n + 13)) (n + 13)) true ≡ Exponent (n + 13)
-unfolding sizeOf
-coded-size n q h =
-    let y = q * 2 ^ suc n + (2 ^ n - 1) in
-    let e : y * 4096 / 2 ^ 12 ≡ y = omega arith in
-    rw (coded-shape n q, lowest-trailing 52 12 (y * 4096), e, trailing-ones 52 n q h, lt-ltb (12 + n) 64 (omega arith)) (ap Exponent (omega arith))
-
 -- S clear is 4096 bytes
 pub plain-size : (a : ℕ) → sizeOf a false ≡ Exponent 12
 unfolding sizeOf
 plain-size a = refl
-
-pub coded-base : (n q : ℕ) → n < 52 → baseOf (coded (q * 2 ^ (n + 13)) (n + 13)) (Exponent (n + 13)) ≡ q * 2 ^ (n + 13)
-unfolding regionOf
-coded-base n q h =
-    let e = n + 13 in
-    let small : 2 ^ (e - 1) - 4096 < 2 ^ e = omega (arith, pow-mono {i = e - 1} {j = e} (omega arith), pow-pos e) in
-    rw (min-eq-left {n = e} {m = 64} (omega arith), high q e small)
 
 -- a size is at least 4096 bytes and at most 2 ^ 64
 pub size-between : (a : ℕ) (s : Bool) (e : ℕ) → sizeOf a s ≡ Exponent e → (12 ≤ e) × (e ≤ 64)

@@ -1,5 +1,5 @@
 -- Sizes: the code that a translation and an Invalidate Request's body share. 01, "Sizes".
-use Prim.Native.Nat.{ℕ, zero, suc, _+_, _/_, _%_, _^_}
+use Prim.Native.Nat.{ℕ, zero, suc, _+_, _-_, _/_, _%_, _^_, min, max}
 use mathlib.Core.Bool.{Bool, cond}
 use lib.Dec.{ltb, eqb}
 use Rattle.ranges.specs.declared.Size.{Size}
@@ -40,3 +40,23 @@ translationOf x =
       w = bit x 1;
       r = eqb (x % 2) 1;
     }
+
+-- ---- the code of a size, and of a translation (02 b)
+
+-- sizes are 2 ^ 12 to 2 ^ 64 bytes; an exponent outside counts as the nearest of them
+abbrev pub sizeExponent : ℕ → ℕ
+sizeExponent e = max 12 (min e 64)
+
+-- The address that encodes the aligned region of 2 ^ e bytes which holds a: the region's first byte, with bit e - 1 zero
+-- and the bits below it ones, down to bit 12. 4096 bytes leave no such bits.
+unfoldable pub coded : ℕ → ℕ → ℕ
+coded a e = regionOf a (sizeExponent e) .first + (2 ^ (sizeExponent e - 1) - 4096)
+
+-- the address with S in bit 11, which is clear for 4096 bytes; all ones if there is no size
+abbrev pub codedSize : ℕ → Size → ℕ
+codedSize a (Exponent e) = coded a e + cond (ltb 12 e) 2048 0
+codedSize a NoSize = 2 ^ 64 - 2048
+
+-- a translation as a number of eight bytes
+unfoldable pub wordOf : Translation → ℕ
+wordOf t = codedSize (t .base) (t .size) + cond (t .n) 1024 0 + cond (t .u) 4 0 + cond (t .w) 2 0 + cond (t .r) 1 0

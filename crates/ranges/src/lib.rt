@@ -1,8 +1,9 @@
 // Sizes and ranges. A size is the exponent of a power of two and a range ends with its last byte,
 // so that 2^64 never has to fit.
 ghost use mathlib.Core.Path.{_≡_};
-ghost use Prim.Native.Nat.{_/_, _*_, _^_, _≤_, max};
-ghost use Rattle.ranges.specs.Size.{lowestZero, sizeAt, sizeOf, baseOf, translationOf};
+ghost use mathlib.Core.Bool.{cond};
+ghost use Prim.Native.Nat.{_-_, _/_, _*_, _^_, _≤_, max};
+ghost use Rattle.ranges.specs.Size.{lowestZero, sizeAt, sizeOf, baseOf, translationOf, sizeExponent, coded, codedSize, wordOf};
 ghost use Rattle.ranges.specs.Range.{unitExponent, unitBytes, regionOf, roundedOf, rangeFrom, unitsFrom, relocated, overlaps};
 
 pub enum Size {
@@ -186,4 +187,57 @@ pub fn translation_of(word: u64) -> Translation
         w: word / 2 % 2 == 1,
         r: word % 2 == 1,
     }
+}
+
+// Sizes are 2^12 to 2^64 bytes. An exponent outside counts as the nearest of them.
+fn size_exponent(exponent: u32) -> u32
+    ensures { λ r. ⌜ (r ≡ sizeExponent exponent) × (12 ≤ r) × (r ≤ 64) ⌝ }
+{
+    if exponent < 12 {
+        return 12;
+    }
+    if exponent < 64 { exponent } else { 64 }
+}
+
+// Ones from bit 12 up to bit exponent - 2.
+fn ones_below(exponent: u32) -> u64
+    requires { ⌜ (12 ≤ exponent) × (exponent ≤ 64) ⌝ }
+    ensures { λ r. ⌜ r ≡ 2 ^ (exponent - 1) - 4096 ⌝ }
+{
+    if exponent == 12 {
+        0
+    } else {
+        (1u64 << (exponent - 1)) - 4096
+    }
+}
+
+// The address that encodes the region of 2^exponent bytes which holds an address.
+pub fn coded(address: u64, exponent: u32) -> u64
+    ensures { λ r. ⌜ (r ≡ coded address exponent) × (r ≤ 0xFFFF_FFFF_FFFF_F000) ⌝ }
+{
+    let e = size_exponent(exponent);
+    region(address, e).first + ones_below(e)
+}
+
+fn flag(set: bool, value: u64) -> u64
+    ensures { λ r. ⌜ (r ≡ cond set value 0) × (r ≤ value) ⌝ }
+{
+    if set { value } else { 0 }
+}
+
+fn coded_size(address: u64, size: Size) -> u64
+    ensures { λ r. ⌜ (r ≡ codedSize address size) × (r ≤ 0xFFFF_FFFF_FFFF_F800) ⌝ }
+{
+    match size {
+        Size::Exponent(e) => coded(address, e) + flag(12 < e, 2048),
+        Size::NoSize => 0xFFFF_FFFF_FFFF_F800,
+    }
+}
+
+// Encodes an 8-byte translation.
+pub fn word_of(t: Translation) -> u64
+    ensures { λ r. ⌜ r ≡ wordOf t ⌝ }
+{
+    let size = t.size;
+    coded_size(t.base, size) + flag(t.n, 1024) + flag(t.u, 4) + flag(t.w, 2) + flag(t.r, 1)
 }

@@ -1,0 +1,22 @@
+-- Laws of the translator.
+use mathlib.Core.Path.{_≡_, refl, sym, ap, _∙_}
+use mathlib.Core.Bool.{Bool, true, false, cond}
+use Prim.Native.Nat.{ℕ, _≤_, _%_}
+use native.Mathlib.Omega.{arith}
+use lib.Dec.{eqb, leb}
+use borrow.Author.Tests.{leb-true, eqb-false}
+use Rattle.lemmas.proofs.Cases.{byCases, and-both}
+use Rattle.packet.specs.declared.Body.the-variants.{Tr}
+use Rattle.packet.specs.declared.TranslationRequest.{TranslationRequest}
+use Rattle.packet.specs.Kinds.{shortEnough, evenAndShort, allowedBody}
+
+-- the Length of a request that may be read is at most 32
+pub few-dwords : (tc : ℕ) (t : TranslationRequest) → allowedBody tc (Tr t) ≡ true → t .dwords ≤ 32
+unfolding allowedBody
+few-dwords tc t e = byCases (eqb (t .dwords) 0) (λ z. absurd (never (rw z at short))) (λ z. leb-true (t .dwords) 32 (rw z at short))
+  where
+    short : shortEnough (t .dwords) ≡ true
+    short = and-both (eqb (t .dwords % 2) 0) (shortEnough (t .dwords)) e .1
+
+    never : leb 1024 32 ≡ true → ⊥
+    never q = omega (arith, leb-true 1024 32 q)

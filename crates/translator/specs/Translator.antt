@@ -1,0 +1,139 @@
+-- The host's translator: the reply to a Translation Request, by a page walk. 02, "b".
+use mathlib.Core.Bool.{Bool, false, cond, not, _&&_}
+use mathlib.Core.List.{List, [], _++_}
+use Prim.Native.Nat.{ℕ, _*_, _/_, _%_, _^_}
+use lib.ListN.{length}
+use Rattle.ranges.specs.declared.Size.the-variants.{Exponent}
+use Rattle.ranges.specs.declared.Translation.{Translation}
+use Rattle.ranges.specs.Size.{wordOf}
+use Rattle.packet.specs.declared.Body.{Body}
+use Rattle.packet.specs.declared.Body.the-variants.{Tr, Mem, Cpl, Inv, Ic, Prq, Prs}
+use Rattle.packet.specs.declared.Head.{Head}
+use Rattle.packet.specs.declared.Outcome.{Outcome}
+use Rattle.packet.specs.declared.Outcome.the-variants.{Data, Status}
+use Rattle.packet.specs.declared.Packet.{Packet}
+use Rattle.packet.specs.declared.Tag.{Tag}
+use Rattle.packet.specs.declared.TranslationRequest.{TranslationRequest}
+use Rattle.packet.specs.Numbers.{Result, ok, refusal, numberOf}
+use Rattle.packet.specs.Frames.{fourBytes}
+use Rattle.packet.specs.Kinds.{attrZero}
+use Rattle.packet.specs.Reading.{reading}
+use Rattle.packet.specs.Writing.{bytesOf, writing, bufferAfter}
+use Rattle.walk.specs.declared.End.{End}
+use Rattle.walk.specs.declared.End.the-variants.{Mapped, Unmapped, NotLent}
+use Rattle.walk.specs.declared.Mapping.{Mapping}
+use Rattle.walk.specs.declared.Rights.{Rights}
+use Rattle.walk.specs.Walk.{isNone, Walked, walked}
+use Rattle.translator.specs.declared.Reply.{Reply}
+use Rattle.translator.specs.declared.Reply.the-variants as reply
+use Rattle.translator.specs.declared.Replied.{Replied}
+use Rattle.translator.specs.declared.Translating.{Translating}
+use Rattle.translator.specs.declared.Translating.the-variants as translating
+
+-- ---- the translation that a walk gives
+
+-- No Write clears W
+abbrev pub finalRights : Bool → Rights → Rights
+finalRights nowrite g = record { r = g .r; w = g .w && not nowrite }
+
+-- 2 ^ e bytes at a base, with these rights; N and U are clear
+abbrev pub translationWith : ℕ → ℕ → Rights → Translation
+translationWith base e g = record { base = base; size = Exponent e; n = false; u = false; w = g .w; r = g .r }
+
+-- 4096 bytes at address 0, with R and W clear
+abbrev pub nullTranslation : Translation
+nullTranslation = translationWith 0 12 (record { r = false; w = false })
+
+-- null if no right is left
+abbrev pub translationTo : Bool → Mapping → Translation
+translationTo nowrite m =
+    cond (isNone (finalRights nowrite (m .rights))) nullTranslation
+    (translationWith (m .frame) (m .exponent) (finalRights nowrite (m .rights)))
+
+-- ---- the reply: a completion from the host, in the Traffic Class of the request, for its sender and tag
+
+abbrev pub replyPacket : ℕ → Head → Tag → Outcome → ℕ → ℕ → Packet
+replyPacket host h t outcome count lower =
+    record {
+      head = record { tc = h .tc; attr = attrZero; sender = host };
+      body = Cpl (record { outcome = outcome; count = count; requester = h .sender; tag = t; lower = lower });
+    }
+
+abbrev pub eightBytes : ℕ → List ℕ
+eightBytes x = fourBytes (x / 2 ^ 32) ++ fourBytes (x % 2 ^ 32)
+
+-- what it is, the packet, and the packet's payload
+pub record Prepared : Type 0 where
+  pub reply : Reply
+  pub packet : Packet
+  pub load : List ℕ
+
+-- one translation of two DWORDs, which end on a boundary of 128 bytes
+abbrev pub translationReply : ℕ → Head → Tag → Translation → Prepared
+translationReply host h t x =
+    record { reply = reply.Translation; packet = replyPacket host h t (Data 2) 8 120; load = eightBytes (wordOf x) }
+
+-- status 100, and as Byte Count the bytes that were requested
+abbrev pub statusReply : ℕ → Head → Tag → ℕ → Prepared
+statusReply host h t dwords =
+    record { reply = reply.Status100; packet = replyPacket host h t (Status 4) (4 * dwords) 0; load = [] }
+
+abbrev pub replyTo : ℕ → Head → TranslationRequest → End → Prepared
+replyTo host h t (Mapped m) = translationReply host h (t .tag) (translationTo (t .nowrite) m)
+replyTo host h t Unmapped = translationReply host h (t .tag) nullTranslation
+replyTo host h t NotLent = statusReply host h (t .tag) (t .dwords)
+
+-- ---- the call: its answer, and the buffer after it
+
+pub record Reported : Type 0 where
+  pub answer : Result Replied
+  pub buffer : List ℕ
+
+-- a refused call leaves the buffer unchanged
+abbrev pub refusedWith : ℕ → List ℕ → Reported
+refusedWith n out = record { answer = refusal n; buffer = out }
+
+abbrev pub repliedIf : Reply → ℕ → Result ℕ → Result Replied
+repliedIf what visits (ok n) = ok (record { reply = what; length = n; visits = visits })
+repliedIf what visits (refusal n) = refusal n
+
+-- the reply is written if there is room, otherwise refused with 17; the answer counts the entries that the walk read
+abbrev pub replying : Reply → Packet → List ℕ → ℕ → List ℕ → Reported
+replying what p load visits out =
+    record {
+      answer = repliedIf what visits (writing p (length load) (length out));
+      buffer = bufferAfter (writing p (length load) (length out)) (bytesOf p load) out;
+    }
+
+abbrev pub replyingAs : Prepared → ℕ → List ℕ → Reported
+replyingAs x visits out = replying (x .reply) (x .packet) (x .load) visits out
+
+-- only the first unit of a request is translated
+abbrev pub answering : ℕ → Head → TranslationRequest → Walked → List ℕ → Reported
+answering host h t w out = replyingAs (replyTo host h t (w .end)) (length (w .visits)) out
+
+-- every other kind is refused with 2
+unfoldable pub bodyTranslated : ℕ → List ℕ → List ℕ → Head → Body → Reported
+bodyTranslated host table out h (Tr t) = answering host h t (walked table (t .address)) out
+bodyTranslated host table out h (Mem m) = refusedWith 2 out
+bodyTranslated host table out h (Cpl c) = refusedWith 2 out
+bodyTranslated host table out h (Inv i) = refusedWith 2 out
+bodyTranslated host table out h (Ic i) = refusedWith 2 out
+bodyTranslated host table out h (Prq q) = refusedWith 2 out
+bodyTranslated host table out h (Prs s) = refusedWith 2 out
+
+-- the refusals of reading come first
+abbrev pub readingTranslated : ℕ → List ℕ → List ℕ → Result Packet → Reported
+readingTranslated host table out (ok p) = bodyTranslated host table out (p .head) (p .body)
+readingTranslated host table out (refusal n) = refusedWith n out
+
+unfoldable pub translated : ℕ → List ℕ → List ℕ → List ℕ → Reported
+translated host b table out = readingTranslated host table out (reading b)
+
+-- the result of an answer of the code
+abbrev pub translateResult : Translating → Result Replied
+translateResult (translating.Replied x) = ok x
+translateResult (translating.Refused r) = refusal (numberOf r)
+
+abbrev pub reported : Translating → List ℕ → Reported
+reported a out = record { answer = translateResult a; buffer = out }

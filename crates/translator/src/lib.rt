@@ -1,0 +1,229 @@
+// The host's translator. It takes a Translation Request and lent page tables, and sends the reply.
+use packet::Body;
+use packet::Completion;
+use packet::Head;
+use packet::Outcome;
+use packet::Packet;
+use packet::Reading;
+use packet::Refusal;
+use packet::Tag;
+use packet::TranslationRequest;
+use packet::Writing;
+use ranges::Size;
+use ranges::Translation;
+use walk::End;
+use walk::Mapping;
+use walk::Rights;
+use walk::Walk;
+ghost use mathlib.Core.Path.{_≡_};
+ghost use mathlib.Core.Bool.{true};
+ghost use Prim.Native.Nat.{_≤_};
+ghost use Rattle.packet.specs.Kinds.{allowedBody};
+ghost use Rattle.walk.specs.Walk.{isNone};
+ghost use Rattle.translator.specs.Translator.{finalRights, translationWith, translationTo, nullTranslation, replyPacket, eightBytes, replying, replyingAs, translationReply, statusReply, replyTo, bodyTranslated, translated, reported};
+
+// What a reply is.
+pub enum Reply {
+    Translation,
+    Status100,
+}
+
+// What was sent, its length in bytes, and how many table entries the walk read.
+pub struct Replied {
+    pub reply: Reply,
+    pub length: usize,
+    pub visits: u32,
+}
+
+// The result of a call: a reply, or a refusal.
+pub enum Translating {
+    Replied(Replied),
+    Refused(Refusal),
+}
+
+fn final_rights(nowrite: bool, g: Rights) -> Rights
+    ensures { λ r. ⌜ r ≡ finalRights nowrite g ⌝ }
+{
+    if nowrite {
+        Rights { r: g.r, w: false }
+    } else {
+        g
+    }
+}
+
+fn is_none(g: Rights) -> bool
+    ensures { λ r. ⌜ r ≡ isNone g ⌝ }
+{
+    if g.r {
+        false
+    } else {
+        if g.w { false } else { true }
+    }
+}
+
+fn translation_with(base: u64, exponent: u32, g: Rights) -> Translation
+    ensures { λ r. ⌜ r ≡ translationWith base exponent g ⌝ }
+{
+    let size = Size::Exponent(exponent);
+    Translation {
+        base,
+        size,
+        n: false,
+        u: false,
+        w: g.w,
+        r: g.r,
+    }
+}
+
+// A 4096-byte translation with neither right.
+fn null_translation() -> Translation
+    ensures { λ r. ⌜ r ≡ nullTranslation ⌝ }
+{
+    translation_with(0, 12, Rights { r: false, w: false })
+}
+
+fn translation_to(nowrite: bool, m: Mapping) -> Translation
+    ensures { λ r. ⌜ r ≡ translationTo nowrite m ⌝ }
+{
+    let granted = m.rights;
+    let left = final_rights(nowrite, granted);
+    if is_none(left) {
+        null_translation()
+    } else {
+        translation_with(m.frame, m.exponent, left)
+    }
+}
+
+// A completion from the host, in the Traffic Class of the request, for its sender and tag.
+fn reply_packet(host: u16, h: Head, tag: Tag, outcome: Outcome, count: u16, lower: u8) -> Packet
+    ensures { λ r. ⌜ r ≡ replyPacket host h tag outcome count lower ⌝ }
+{
+    let body = Body::Cpl(Completion {
+        outcome,
+        count,
+        requester: h.sender,
+        tag,
+        lower,
+    });
+    let attr = packet::Attr {
+        ido: false,
+        relaxed: false,
+        nosnoop: false,
+    };
+    Packet {
+        head: Head {
+            tc: h.tc,
+            attr,
+            sender: host,
+        },
+        body,
+    }
+}
+
+fn eight_bytes(x: u64) -> [u8; 8]
+    ensures { λ r. ⌜ r ≡ eightBytes x ⌝ }
+{
+    [
+        (x / 4294967296 / 16777216 % 256) as u8,
+        (x / 4294967296 / 65536 % 256) as u8,
+        (x / 4294967296 / 256 % 256) as u8,
+        (x / 4294967296 % 256) as u8,
+        (x % 4294967296 / 16777216 % 256) as u8,
+        (x % 4294967296 / 65536 % 256) as u8,
+        (x % 4294967296 / 256 % 256) as u8,
+        (x % 4294967296 % 256) as u8,
+    ]
+}
+
+fn send(reply: Reply, p: Packet, payload: &[u8], visits: u32, out: &mut [u8]) -> Translating
+    ensures { λ r. ⌜ reported r (now (out .exit)) ≡ replying reply p (now (payload .entry)) visits (now (out .entry)) ⌝ }
+{
+    match tlp::write_packet(p, payload, out) {
+        Writing::Written(n) => Translating::Replied(Replied {
+            reply,
+            length: n,
+            visits,
+        }),
+        Writing::Refused(r) => Translating::Refused(r),
+    }
+}
+
+fn send_translation(
+    host: u16,
+    h: Head,
+    tag: Tag,
+    x: Translation,
+    visits: u32,
+    out: &mut [u8],
+) -> Translating
+    ensures { λ r. ⌜ reported r (now (out .exit)) ≡ replyingAs (translationReply host h tag x) visits (now (out .entry)) ⌝ }
+{
+    let payload = eight_bytes(ranges::word_of(x));
+    let p = reply_packet(host, h, tag, Outcome::Data(2), 8, 120);
+    send(Reply::Translation, p, &payload, visits, out)
+}
+
+fn send_status(
+    host: u16,
+    h: Head,
+    tag: Tag,
+    dwords: u16,
+    visits: u32,
+    out: &mut [u8],
+) -> Translating
+    requires { ⌜ dwords ≤ 32 ⌝ }
+    ensures { λ r. ⌜ reported r (now (out .exit)) ≡ replyingAs (statusReply host h tag dwords) visits (now (out .entry)) ⌝ }
+{
+    let none: [u8; 0] = [0; 0];
+    let p = reply_packet(host, h, tag, Outcome::Status(4), 4 * dwords, 0);
+    send(Reply::Status100, p, &none, visits, out)
+}
+
+fn answer(host: u16, h: Head, t: TranslationRequest, w: Walk, out: &mut [u8]) -> Translating
+    requires { ⌜ t .dwords ≤ 32 ⌝ }
+    ensures { λ r. ⌜ reported r (now (out .exit)) ≡ replyingAs (replyTo host h t (w .end)) (w .visits) (now (out .entry)) ⌝ }
+{
+    let end = w.end;
+    let tag = t.tag;
+    match end {
+        End::Mapped(m) => send_translation(
+            host,
+            h,
+            tag,
+            translation_to(t.nowrite, m),
+            w.visits,
+            out,
+        ),
+        End::Unmapped => send_translation(host, h, tag, null_translation(), w.visits, out),
+        End::NotLent => send_status(host, h, tag, t.dwords, w.visits, out),
+    }
+}
+
+fn translate_body(host: u16, h: Head, body: Body, table: &[u64], out: &mut [u8]) -> Translating
+    requires { ⌜ allowedBody (h .tc) body ≡ true ⌝ }
+    ensures { λ r. ⌜ reported r (now (out .exit)) ≡ bodyTranslated host (now (table .entry)) (now (out .entry)) h body ⌝ }
+{
+    match body {
+        Body::Tr(t) => answer(host, h, t, walk::walk_tables(table, t.address), out),
+        Body::Mem(_) => Translating::Refused(Refusal::UnsupportedKind),
+        Body::Cpl(_) => Translating::Refused(Refusal::UnsupportedKind),
+        Body::Inv(_) => Translating::Refused(Refusal::UnsupportedKind),
+        Body::Ic(_) => Translating::Refused(Refusal::UnsupportedKind),
+        Body::Prq(_) => Translating::Refused(Refusal::UnsupportedKind),
+        Body::Prs(_) => Translating::Refused(Refusal::UnsupportedKind),
+    }
+}
+
+// Replies to a Translation Request that the host received. A refused call leaves `out` unchanged.
+pub fn translate(host: u16, b: &[u8], table: &[u64], out: &mut [u8]) -> Translating
+    ensures { λ r. ⌜ reported r (now (out .exit)) ≡ translated host (now (b .entry)) (now (table .entry)) (now (out .entry)) ⌝ }
+{
+    match tlp::read_packet(b) {
+        Reading::Read(p) => {
+            let head = p.head;
+            let body = p.body;
+            translate_body(host, head, body, table, out)
+        }
+        Reading::Refused(r) => Translating::Refused(r),
+    }
+}

@@ -53,6 +53,10 @@ decodeFrame b =
 abbrev pub fourBytes : ℕ → List ℕ
 fourBytes n = (n / 16777216 % 256) ∷ (n / 65536 % 256) ∷ (n / 256 % 256) ∷ (n % 256) ∷ []
 
+-- a QWORD as eight bytes
+abbrev pub eightBytes : ℕ → List ℕ
+eightBytes n = fourBytes (n / 2 ^ 32) ++ fourBytes (n % 2 ^ 32)
+
 -- a frame as 24 bytes; TD, EP and every unnamed bit are zero
 abbrev pub encodeFrame : Frame → List ℕ
 encodeFrame f =
@@ -64,4 +68,4 @@ encodeFrame f =
     ∷ (f .common .sender % 256)
     ∷ f .byte6
     ∷ f .byte7
-    ∷ (fourBytes (f .dword8) ++ fourBytes (f .dword12) ++ fourBytes (f .body / 2 ^ 32) ++ fourBytes (f .body % 2 ^ 32))
+    ∷ (fourBytes (f .dword8) ++ fourBytes (f .dword12) ++ eightBytes (f .body))

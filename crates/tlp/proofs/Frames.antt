@@ -66,7 +66,7 @@ read-upTo PrgResp f n = refl
 abbrev fromBytes : ℕ → ℕ → ℕ → ℕ → ℕ
 fromBytes a b c d = (a * 256 + b) * 65536 + (c * 256 + d)
 
-four-back : (n : ℕ) → n < 2 ^ 32 → fromBytes (n / 16777216 % 256) (n / 65536 % 256) (n / 256 % 256) (n % 256) ≡ n
+pub four-back : (n : ℕ) → n < 2 ^ 32 → fromBytes (n / 16777216 % 256) (n / 65536 % 256) (n / 256 % 256) (n % 256) ≡ n
 four-back n h =
     let e : n / 16777216 % 256 ≡ n / 16777216 = omega arith in
     rw e (omega arith)

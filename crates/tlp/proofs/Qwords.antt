@@ -2,7 +2,7 @@
 use mathlib.Core.Path.{_≡_}
 use mathlib.Core.Bool.{true}
 use mathlib.Core.List.{List, [], _∷_}
-use Prim.Native.Nat.{ℕ, zero, suc, _*_, _/_, _<_, _^_}
+use Prim.Native.Nat.{ℕ, zero, suc, _*_, _/_, _%_, _<_, _^_}
 use native.Mathlib.Omega.{arith}
 use lib.Dec.{ltb, lit≤}
 use lib.ListN.{length, drop}
@@ -12,9 +12,10 @@ use Rattle.ranges.specs.declared.Size.{Size}
 use Rattle.ranges.specs.declared.Size.the-variants.{Exponent, NoSize}
 use Rattle.ranges.specs.Size.{baseOf, sizeOf, bit, translationOf}
 use Rattle.ranges.proofs.Units.{region-first}
+use Rattle.packet.specs.Frames.{eightBytes}
 use Rattle.packet.specs.Reading.{qwordAt}
 use Rattle.tlp.specs.Bytes.{Bytes, areBytes}
-use Rattle.tlp.proofs.Frames.{num64-lt}
+use Rattle.tlp.proofs.Frames.{num64-lt, four-back}
 use Rattle.tlp.specs.Translations.{translationAt}
 
 pub octets : (b : List ℕ) → areBytes b ≡ true → Bytes b
@@ -34,6 +35,14 @@ word-lt b h k =
     byCases (ltb k (length b / 8))
     (λ e. rw e (num64-lt b h (8 * k)))
     (λ e. rw e (lit≤ tt))
+
+-- a QWORD in bytes, read again
+pub qword-of-bytes : (n : ℕ) → n < 2 ^ 64 → qwordAt (eightBytes n) 0 ≡ n
+unfolding qwordAt
+qword-of-bytes n h =
+    let high : n / 2 ^ 32 < 2 ^ 32 = omega arith in
+    let low : n % 2 ^ 32 < 2 ^ 32 = omega arith in
+    rw (four-back (n / 2 ^ 32) high, four-back (n % 2 ^ 32) low) (omega arith)
 
 pub base-lt : (b : List ℕ) → Bytes b → (k : ℕ) → translationAt b k .base < 2 ^ 64
 unfolding translationAt translationOf

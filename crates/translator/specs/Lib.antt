@@ -1,1 +1,2 @@
 pub mod Translator
+pub mod Replies

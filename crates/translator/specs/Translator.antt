@@ -1,7 +1,7 @@
 -- The host's translator: the reply to a Translation Request, by a page walk. 02, "b".
 use mathlib.Core.Bool.{Bool, false, cond, not, _&&_}
-use mathlib.Core.List.{List, [], _++_}
-use Prim.Native.Nat.{ℕ, _*_, _/_, _%_, _^_}
+use mathlib.Core.List.{List, []}
+use Prim.Native.Nat.{ℕ, _*_}
 use lib.ListN.{length}
 use Rattle.ranges.specs.declared.Size.the-variants.{Exponent}
 use Rattle.ranges.specs.declared.Translation.{Translation}
@@ -15,7 +15,7 @@ use Rattle.packet.specs.declared.Packet.{Packet}
 use Rattle.packet.specs.declared.Tag.{Tag}
 use Rattle.packet.specs.declared.TranslationRequest.{TranslationRequest}
 use Rattle.packet.specs.Numbers.{Result, ok, refusal, numberOf}
-use Rattle.packet.specs.Frames.{fourBytes}
+use Rattle.packet.specs.Frames.{eightBytes}
 use Rattle.packet.specs.Kinds.{attrZero}
 use Rattle.packet.specs.Reading.{reading}
 use Rattle.packet.specs.Writing.{bytesOf, writing, bufferAfter}
@@ -25,10 +25,10 @@ use Rattle.walk.specs.declared.Mapping.{Mapping}
 use Rattle.walk.specs.declared.Rights.{Rights}
 use Rattle.walk.specs.Walk.{isNone, Walked, walked}
 use Rattle.translator.specs.declared.Reply.{Reply}
-use Rattle.translator.specs.declared.Reply.the-variants as reply
-use Rattle.translator.specs.declared.Replied.{Replied}
+use Rattle.translator.specs.declared.Reply.the-variants.{Translated, Aborted}
+use Rattle.translator.specs.declared.Report.{Report}
 use Rattle.translator.specs.declared.Translating.{Translating}
-use Rattle.translator.specs.declared.Translating.the-variants as translating
+use Rattle.translator.specs.declared.Translating.the-variants.{Replied, Refused}
 
 -- ---- the translation that a walk gives
 
@@ -59,9 +59,6 @@ replyPacket host h t outcome count lower =
       body = Cpl (record { outcome = outcome; count = count; requester = h .sender; tag = t; lower = lower });
     }
 
-abbrev pub eightBytes : ℕ → List ℕ
-eightBytes x = fourBytes (x / 2 ^ 32) ++ fourBytes (x % 2 ^ 32)
-
 -- what it is, the packet, and the packet's payload
 pub record Prepared : Type 0 where
   pub reply : Reply
@@ -71,12 +68,12 @@ pub record Prepared : Type 0 where
 -- one translation of two DWORDs, which end on a boundary of 128 bytes
 abbrev pub translationReply : ℕ → Head → Tag → Translation → Prepared
 translationReply host h t x =
-    record { reply = reply.Translation; packet = replyPacket host h t (Data 2) 8 120; load = eightBytes (wordOf x) }
+    record { reply = Translated; packet = replyPacket host h t (Data 2) 8 120; load = eightBytes (wordOf x) }
 
 -- status 100, and as Byte Count the bytes that were requested
 abbrev pub statusReply : ℕ → Head → Tag → ℕ → Prepared
 statusReply host h t dwords =
-    record { reply = reply.Status100; packet = replyPacket host h t (Status 4) (4 * dwords) 0; load = [] }
+    record { reply = Aborted; packet = replyPacket host h t (Status 4) (4 * dwords) 0; load = [] }
 
 abbrev pub replyTo : ℕ → Head → TranslationRequest → End → Prepared
 replyTo host h t (Mapped m) = translationReply host h (t .tag) (translationTo (t .nowrite) m)
@@ -85,35 +82,35 @@ replyTo host h t NotLent = statusReply host h (t .tag) (t .dwords)
 
 -- ---- the call: its answer, and the buffer after it
 
-pub record Reported : Type 0 where
-  pub answer : Result Replied
+pub record Observation : Type 0 where
+  pub answer : Result Report
   pub buffer : List ℕ
 
 -- a refused call leaves the buffer unchanged
-abbrev pub refusedWith : ℕ → List ℕ → Reported
+abbrev pub refusedWith : ℕ → List ℕ → Observation
 refusedWith n out = record { answer = refusal n; buffer = out }
 
-abbrev pub repliedIf : Reply → ℕ → Result ℕ → Result Replied
+abbrev pub repliedIf : Reply → ℕ → Result ℕ → Result Report
 repliedIf what visits (ok n) = ok (record { reply = what; length = n; visits = visits })
 repliedIf what visits (refusal n) = refusal n
 
 -- the reply is written if there is room, otherwise refused with 17; the answer counts the entries that the walk read
-abbrev pub replying : Reply → Packet → List ℕ → ℕ → List ℕ → Reported
+abbrev pub replying : Reply → Packet → List ℕ → ℕ → List ℕ → Observation
 replying what p load visits out =
     record {
       answer = repliedIf what visits (writing p (length load) (length out));
       buffer = bufferAfter (writing p (length load) (length out)) (bytesOf p load) out;
     }
 
-abbrev pub replyingAs : Prepared → ℕ → List ℕ → Reported
+abbrev pub replyingAs : Prepared → ℕ → List ℕ → Observation
 replyingAs x visits out = replying (x .reply) (x .packet) (x .load) visits out
 
 -- only the first unit of a request is translated
-abbrev pub answering : ℕ → Head → TranslationRequest → Walked → List ℕ → Reported
+abbrev pub answering : ℕ → Head → TranslationRequest → Walked → List ℕ → Observation
 answering host h t w out = replyingAs (replyTo host h t (w .end)) (length (w .visits)) out
 
 -- every other kind is refused with 2
-unfoldable pub bodyTranslated : ℕ → List ℕ → List ℕ → Head → Body → Reported
+unfoldable pub bodyTranslated : ℕ → List ℕ → List ℕ → Head → Body → Observation
 bodyTranslated host table out h (Tr t) = answering host h t (walked table (t .address)) out
 bodyTranslated host table out h (Mem m) = refusedWith 2 out
 bodyTranslated host table out h (Cpl c) = refusedWith 2 out
@@ -123,17 +120,17 @@ bodyTranslated host table out h (Prq q) = refusedWith 2 out
 bodyTranslated host table out h (Prs s) = refusedWith 2 out
 
 -- the refusals of reading come first
-abbrev pub readingTranslated : ℕ → List ℕ → List ℕ → Result Packet → Reported
+abbrev pub readingTranslated : ℕ → List ℕ → List ℕ → Result Packet → Observation
 readingTranslated host table out (ok p) = bodyTranslated host table out (p .head) (p .body)
 readingTranslated host table out (refusal n) = refusedWith n out
 
-unfoldable pub translated : ℕ → List ℕ → List ℕ → List ℕ → Reported
+unfoldable pub translated : ℕ → List ℕ → List ℕ → List ℕ → Observation
 translated host b table out = readingTranslated host table out (reading b)
 
 -- the result of an answer of the code
-abbrev pub translateResult : Translating → Result Replied
-translateResult (translating.Replied x) = ok x
-translateResult (translating.Refused r) = refusal (numberOf r)
+abbrev pub translateResult : Translating → Result Report
+translateResult (Replied x) = ok x
+translateResult (Refused r) = refusal (numberOf r)
 
-abbrev pub reported : Translating → List ℕ → Reported
-reported a out = record { answer = translateResult a; buffer = out }
+abbrev pub observation : Translating → List ℕ → Observation
+observation a out = record { answer = translateResult a; buffer = out }

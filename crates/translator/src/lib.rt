@@ -18,18 +18,19 @@ use walk::Walk;
 ghost use mathlib.Core.Path.{_≡_};
 ghost use mathlib.Core.Bool.{true};
 ghost use Prim.Native.Nat.{_≤_};
+ghost use Rattle.packet.specs.Frames.{eightBytes};
 ghost use Rattle.packet.specs.Kinds.{allowedBody};
 ghost use Rattle.walk.specs.Walk.{isNone};
-ghost use Rattle.translator.specs.Translator.{finalRights, translationWith, translationTo, nullTranslation, replyPacket, eightBytes, replying, replyingAs, translationReply, statusReply, replyTo, bodyTranslated, translated, reported};
+ghost use Rattle.translator.specs.Translator.{finalRights, translationWith, translationTo, nullTranslation, replyPacket, replying, replyingAs, translationReply, statusReply, replyTo, bodyTranslated, translated, observation};
 
-// What a reply is.
+// What a reply is: a translation, or status 100.
 pub enum Reply {
-    Translation,
-    Status100,
+    Translated,
+    Aborted,
 }
 
 // What was sent, its length in bytes, and how many table entries the walk read.
-pub struct Replied {
+pub struct Report {
     pub reply: Reply,
     pub length: usize,
     pub visits: u32,
@@ -37,7 +38,7 @@ pub struct Replied {
 
 // The result of a call: a reply, or a refusal.
 pub enum Translating {
-    Replied(Replied),
+    Replied(Report),
     Refused(Refusal),
 }
 
@@ -136,10 +137,10 @@ fn eight_bytes(x: u64) -> [u8; 8]
 }
 
 fn send(reply: Reply, p: Packet, payload: &[u8], visits: u32, out: &mut [u8]) -> Translating
-    ensures { λ r. ⌜ reported r (now (out .exit)) ≡ replying reply p (now (payload .entry)) visits (now (out .entry)) ⌝ }
+    ensures { λ r. ⌜ observation r (now (out .exit)) ≡ replying reply p (now (payload .entry)) visits (now (out .entry)) ⌝ }
 {
     match tlp::write_packet(p, payload, out) {
-        Writing::Written(n) => Translating::Replied(Replied {
+        Writing::Written(n) => Translating::Replied(Report {
             reply,
             length: n,
             visits,
@@ -156,11 +157,11 @@ fn send_translation(
     visits: u32,
     out: &mut [u8],
 ) -> Translating
-    ensures { λ r. ⌜ reported r (now (out .exit)) ≡ replyingAs (translationReply host h tag x) visits (now (out .entry)) ⌝ }
+    ensures { λ r. ⌜ observation r (now (out .exit)) ≡ replyingAs (translationReply host h tag x) visits (now (out .entry)) ⌝ }
 {
     let payload = eight_bytes(ranges::word_of(x));
     let p = reply_packet(host, h, tag, Outcome::Data(2), 8, 120);
-    send(Reply::Translation, p, &payload, visits, out)
+    send(Reply::Translated, p, &payload, visits, out)
 }
 
 fn send_status(
@@ -172,16 +173,16 @@ fn send_status(
     out: &mut [u8],
 ) -> Translating
     requires { ⌜ dwords ≤ 32 ⌝ }
-    ensures { λ r. ⌜ reported r (now (out .exit)) ≡ replyingAs (statusReply host h tag dwords) visits (now (out .entry)) ⌝ }
+    ensures { λ r. ⌜ observation r (now (out .exit)) ≡ replyingAs (statusReply host h tag dwords) visits (now (out .entry)) ⌝ }
 {
     let none: [u8; 0] = [0; 0];
     let p = reply_packet(host, h, tag, Outcome::Status(4), 4 * dwords, 0);
-    send(Reply::Status100, p, &none, visits, out)
+    send(Reply::Aborted, p, &none, visits, out)
 }
 
 fn answer(host: u16, h: Head, t: TranslationRequest, w: Walk, out: &mut [u8]) -> Translating
     requires { ⌜ t .dwords ≤ 32 ⌝ }
-    ensures { λ r. ⌜ reported r (now (out .exit)) ≡ replyingAs (replyTo host h t (w .end)) (w .visits) (now (out .entry)) ⌝ }
+    ensures { λ r. ⌜ observation r (now (out .exit)) ≡ replyingAs (replyTo host h t (w .end)) (w .visits) (now (out .entry)) ⌝ }
 {
     let end = w.end;
     let tag = t.tag;
@@ -201,7 +202,7 @@ fn answer(host: u16, h: Head, t: TranslationRequest, w: Walk, out: &mut [u8]) ->
 
 fn translate_body(host: u16, h: Head, body: Body, table: &[u64], out: &mut [u8]) -> Translating
     requires { ⌜ allowedBody (h .tc) body ≡ true ⌝ }
-    ensures { λ r. ⌜ reported r (now (out .exit)) ≡ bodyTranslated host (now (table .entry)) (now (out .entry)) h body ⌝ }
+    ensures { λ r. ⌜ observation r (now (out .exit)) ≡ bodyTranslated host (now (table .entry)) (now (out .entry)) h body ⌝ }
 {
     match body {
         Body::Tr(t) => answer(host, h, t, walk::walk_tables(table, t.address), out),
@@ -216,7 +217,7 @@ fn translate_body(host: u16, h: Head, body: Body, table: &[u64], out: &mut [u8])
 
 // Replies to a Translation Request that the host received. A refused call leaves `out` unchanged.
 pub fn translate(host: u16, b: &[u8], table: &[u64], out: &mut [u8]) -> Translating
-    ensures { λ r. ⌜ reported r (now (out .exit)) ≡ translated host (now (b .entry)) (now (table .entry)) (now (out .entry)) ⌝ }
+    ensures { λ r. ⌜ observation r (now (out .exit)) ≡ translated host (now (b .entry)) (now (table .entry)) (now (out .entry)) ⌝ }
 {
     match tlp::read_packet(b) {
         Reading::Read(p) => {

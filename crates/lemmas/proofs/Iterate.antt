@@ -22,3 +22,12 @@ pub iterate-invariant : {S : Type 0} (step : ℕ → S → S) (P : S → Type 0)
 unfolding iterate
 iterate-invariant step P zero s h f = h
 iterate-invariant step P (suc n) s h f = f n (iterate step n s) (lt-suc-self n) (iterate-invariant step P n s h (λ k r l q. f k r (lt-trans l (lt-suc-self n)) q))
+
+-- steps that do the same make the same loop
+pub iterate-same : {S : Type 0} (step other : ℕ → S → S) (n : ℕ) (s : S) → ((k : ℕ) (r : S) → k < n → step k r ≡ other k r)
+    → iterate step n s ≡ iterate other n s
+unfolding iterate
+iterate-same step other zero s f = refl
+iterate-same step other (suc n) s f =
+    f n (iterate step n s) (lt-suc-self n)
+    ∙ ap (other n) (iterate-same step other n s (λ k r l. f k r (lt-trans l (lt-suc-self n))))

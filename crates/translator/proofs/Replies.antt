@@ -101,10 +101,10 @@ module _ (host : ℕ) (b : List ℕ) (p : Packet) (t : TranslationRequest) (v : 
   tc-lt : p .head .tc < 8
   tc-lt = accepted p _ _ _ (read-writes b p (length b) (v .bytes) (v .read) (le-refl (length b))) .tc
 
-  dwords-le : t .dwords ≤ 32
-  dwords-le = few-dwords (p .head .tc) t (rw (v .request) at (taken b p (v .read) .allows))
+  pub request-dwords : (2 ≤ t .dwords) × (t .dwords ≤ 32)
+  request-dwords = few-dwords (p .head .tc) t (rw (v .request) at (taken b p (v .read) .allows))
 
-  typed-request : TypedBody (Tr t)
+  pub typed-request : TypedBody (Tr t)
   typed-request = rw (v .request) at (read-typed b p (v .bytes) (v .read) .body)
 
   typed-reply : (o : Outcome) (count lower : ℕ) → Typed (replyPacket host (p .head) (t .tag) o count lower)
@@ -125,7 +125,7 @@ module _ (host : ℕ) (b : List ℕ) (p : Packet) (t : TranslationRequest) (v : 
     due-writes (Mapped m) room = writes host (p .head) (t .tag) 8 120 room tc-lt (lit≤ tt) (lit≤ tt) (Data 2) refl refl
     due-writes Unmapped room = writes host (p .head) (t .tag) 8 120 room tc-lt (lit≤ tt) (lit≤ tt) (Data 2) refl refl
     due-writes NotLent room =
-        writes host (p .head) (t .tag) (4 * t .dwords) 0 room tc-lt (omega (arith, dwords-le)) (lit≤ tt) (Status 4) refl refl
+        writes host (p .head) (t .tag) (4 * t .dwords) 0 room tc-lt (omega (arith, request-dwords .1)) (lit≤ tt) (Status 4) refl refl
 
     due-typed : (e : End) → Typed (replyTo host (p .head) t e .packet)
     due-typed (Mapped m) = typed-reply (Data 2) 8 120

@@ -7,7 +7,7 @@ use native.Mathlib.Nat.{add-zero}
 use native.Mathlib.Omega.{arith}
 use lib.Dec.{eqb, leb}
 use lib.ListN.{length}
-use borrow.Author.Tests.{le-leb, lt-leb, ne-eqb}
+use borrow.Author.Tests.{le-leb, lt-leb, leb-false, ne-eqb}
 use Rattle.lemmas.proofs.Cases.{impossible, either-case}
 use Rattle.ranges.specs.declared.Range.{Range}
 use Rattle.ranges.specs.Range.{regionOf}
@@ -115,3 +115,20 @@ pub walk-sound : (table : List ℕ) (a : ℕ) → SoundEnd (walked table a .end)
 unfolding walked
 walk-sound table a =
     either-case (λ (w : Walked). SoundEnd (w .end)) (leb (2 ^ 48) a) (endsIn Unmapped) (walkFrom 3 table a 0 allRights) (λ high. tt) (λ low. from-sound 3 table a 0 allRights (omega arith))
+
+-- only an address below 2 ^ 48 leads to a page
+abbrev pub LowEnd : ℕ → End → Type 0
+LowEnd a (Mapped m) = a < 2 ^ 48
+LowEnd a Unmapped = Unit {0}
+LowEnd a NotLent = Unit {0}
+
+low-end : (a : ℕ) (e : End) → a < 2 ^ 48 → LowEnd a e
+low-end a (Mapped m) h = h
+low-end a Unmapped h = tt
+low-end a NotLent h = tt
+
+pub walk-low : (table : List ℕ) (a : ℕ) → LowEnd a (walked table a .end)
+unfolding walked
+walk-low table a =
+    either-case (λ (w : Walked). LowEnd a (w .end)) (leb (2 ^ 48) a) (endsIn Unmapped) (walkFrom 3 table a 0 allRights) (λ high. tt)
+    (λ low. low-end a (walkFrom 3 table a 0 allRights .end) (leb-false (2 ^ 48) a low))

@@ -11,7 +11,7 @@ walk-tables-requires : tie.Need-walk-tables-requires
 walk-tables-requires c κs = search needs
 
 answer-requires : tie.Need-answer-requires
-answer-requires c κs = let k = c .before .before .before in few-dwords _ _ (rw (k .body .given .1) at (k .before .before .before .before .pre))
+answer-requires c κs = let k = c .before .before .before in few-dwords _ _ (rw (k .body .given .1) at (k .before .before .before .before .pre)) .1
 
 enum-told : tie.Need-enum-told
 enum-told c = search needs

@@ -1,0 +1,5 @@
+pub mod Fits
+pub mod Fills
+pub mod Found
+pub mod Asked
+pub mod Agreement

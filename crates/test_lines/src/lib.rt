@@ -63,6 +63,14 @@ pub fn unhex(line: &[u8], bytes: &mut [u8]) -> Spelled {
     Spelled::Bytes(n)
 }
 
+// Writes a character and a number in decimal.
+pub fn put_number(first: u8, n: u64, out: &mut [u8], at: usize) -> usize {
+    let numeral = text::decimal(n);
+    let digits = numeral.digits;
+    let next = put::byte(out, at, first);
+    put::text(out, next, take::part(&digits, numeral.start))
+}
+
 fn put_again(p: Packet, payload: &[u8], out: &mut [u8], at: usize) -> usize {
     let mut space = [0u8; 144];
     match writer::write_packet(p, payload, &mut space) {
@@ -85,7 +93,7 @@ fn read_one(b: &[u8], out: &mut [u8], at: usize) -> usize {
 }
 
 // Fills a buffer with values that show whether a byte was changed or moved.
-fn mark(space: &mut [u8]) {
+pub fn mark(space: &mut [u8]) {
     let mut i = 0;
     while i < space.len() {
         space[i] = 255 - (i % 251) as u8;
@@ -95,7 +103,7 @@ fn mark(space: &mut [u8]) {
 
 // Writes the packet, a tab, and the rest of its buffer; or the refusal, a tab,
 // and the whole buffer.
-fn put_written(w: Writing, space: &[u8], out: &mut [u8], at: usize) -> usize {
+pub fn put_written(w: Writing, space: &[u8], out: &mut [u8], at: usize) -> usize {
     match w {
         Writing::Written(n) => {
             let a = put::hexes(out, at, take::front(space, n));

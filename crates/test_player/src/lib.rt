@@ -14,19 +14,11 @@ struct Played {
     at: usize,
 }
 
-// Writes a character and a number.
-fn put_number(first: u8, n: u64, out: &mut [u8], at: usize) -> usize {
-    let numeral = text::decimal(n);
-    let digits = numeral.digits;
-    let next = put::byte(out, at, first);
-    put::text(out, next, take::part(&digits, numeral.start))
-}
-
 fn put_answer(a: Answer, out: &mut [u8], at: usize) -> usize {
     match a {
         Answer::Done => put::byte(out, at, b'D'),
-        Answer::Opened(tag) => put_number(b'T', tag.0 as u64, out, at),
-        Answer::Carried(n) => put_number(b'C', n as u64, out, at),
+        Answer::Opened(tag) => test_lines::put_number(b'T', tag.0 as u64, out, at),
+        Answer::Carried(n) => test_lines::put_number(b'C', n as u64, out, at),
         Answer::Discarded => put::byte(out, at, b'X'),
         Answer::More => put::byte(out, at, b'M'),
         Answer::Filled => put::byte(out, at, b'F'),
@@ -35,7 +27,7 @@ fn put_answer(a: Answer, out: &mut [u8], at: usize) -> usize {
         Answer::PayloadMore => put::byte(out, at, b'P'),
         Answer::PayloadLast => put::byte(out, at, b'L'),
         Answer::ReadFailed => put::byte(out, at, b'E'),
-        Answer::Refused(r) => put_number(b'R', packet::number(r) as u64, out, at),
+        Answer::Refused(r) => test_lines::put_number(b'R', packet::number(r) as u64, out, at),
     }
 }
 
@@ -62,7 +54,7 @@ fn put_effect(e: Effect, lent: &[u8], payload: &[u8], out: &mut [u8], at: usize)
     let answer = e.answer;
     let state = e.state;
     let a = put_answer(answer, out, at);
-    let b = put_number(b'\t', e.sent as u64, out, a);
+    let b = test_lines::put_number(b'\t', e.sent as u64, out, a);
     let c = put_bytes(touched(lent), out, b);
     let d = put_bytes(payload, out, c);
     let f = put::byte(out, d, b'\t');

@@ -41,15 +41,23 @@ module _ (f : Function) (a : AskArgs) (out : List ℕ) (unit : f .stu ≡ 0) (id
       let typed : Typed p = record { sender = id; body = (omega arith, omega arith) } in
       let further : a .units - 1 ≡ 2 * a .units / 2 - 1 = omega arith in
       does-write Leaves _ _ p [] out
-      (λ n w. (p, (t, (written-reads p [] (length out) n typed w,
-      record {
-        enabled = on;
-        sender = refl;
-        request = refl;
-        asked = a .address;
-        page = refl;
-        pending = setTag-own (f .tags) tag _ tags (free .0) ∙ rw (unit, further);
-      }))))
+      (λ n w. (
+        p,
+        (
+          t,
+          (
+            written-reads p [] (length out) n typed w,
+            record {
+              enabled = on;
+              sender = refl;
+              request = refl;
+              asked = a .address;
+              page = refl;
+              pending = setTag-own (f .tags) tag _ tags (free .0) ∙ rw (unit, further);
+            },
+          ),
+        ),
+      ))
 
   pub leaves : Does Leaves (asking f a out)
   unfolding asking

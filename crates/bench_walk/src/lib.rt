@@ -1,7 +1,7 @@
 // Walks for many addresses and translates many packets, for benchmarks/walk. Each result is one
 // number, and the sum is over these numbers; benchmarks/walk/walk.h packs and sums in the same way.
-use translator::Replied;
 use translator::Reply;
+use translator::Report;
 use translator::Translating;
 use walk::End;
 use walk::Mapping;
@@ -43,12 +43,12 @@ fn pack_walk(w: Walk) -> u64 {
 
 fn pack_reply(reply: Reply) -> u64 {
     match reply {
-        Reply::Translation => 0,
-        Reply::Status100 => 2048,
+        Reply::Translated => 0,
+        Reply::Aborted => 2048,
     }
 }
 
-fn pack_replied(done: Replied) -> u64 {
+fn pack_replied(done: Report) -> u64 {
     let reply = done.reply;
     pack_reply(reply) | pack_visits(done.visits) | done.length as u64
 }

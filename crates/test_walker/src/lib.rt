@@ -4,8 +4,8 @@ use packet::Writing;
 use test_lines::Spelled;
 use test_records::put;
 use test_records::take;
-use translator::Replied;
 use translator::Reply;
+use translator::Report;
 use translator::Translating;
 ghost use mathlib.Core.Path.{_≡_};
 ghost use lib.ListN.{length};
@@ -69,13 +69,13 @@ fn first_entries(space: &[u64], entries: usize) -> &[u64] {
 
 fn letter(reply: Reply) -> u8 {
     match reply {
-        Reply::Translation => b'T',
-        Reply::Status100 => b'S',
+        Reply::Translated => b'T',
+        Reply::Aborted => b'S',
     }
 }
 
 // Writes what was sent, how many entries were read, the packet, and the rest of its buffer.
-fn put_replied(done: Replied, lent: &[u8], out: &mut [u8], at: usize) -> usize {
+fn put_replied(done: Report, lent: &[u8], out: &mut [u8], at: usize) -> usize {
     let reply = done.reply;
     let a = put::byte(out, at, letter(reply));
     let b = test_lines::put_number(b'\t', done.visits as u64, out, a);

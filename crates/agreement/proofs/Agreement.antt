@@ -48,10 +48,10 @@ module _ (host : ℕ) (b : List ℕ) (p : Packet) (t : TranslationRequest) (f : 
   q = newRequest (o .asked) (requestUnits t - 1)
 
   some : 1 ≤ requestUnits t
-  some = omega (arith, request-dwords host b p t v .0)
+  some = omega (arith, request-dwords host b p t (v .read) (v .request) .0)
 
   few : requestUnits t ≤ 16
-  few = omega (arith, request-dwords host b p t v .1)
+  few = omega (arith, request-dwords host b p t (v .read) (v .request) .1)
 
   fits : o .asked / 4096 * 4096 < 2 ^ 64
   unfolding TypedBody

@@ -1,3 +1,4 @@
 pub mod Packets
 pub mod Calls
 pub mod Listing
+pub mod Host

@@ -20,6 +20,8 @@ use Rattle.ranges.proofs.range_from.Reads as range-from
 use Rattle.ranges.proofs.units_from.Reads as units-from
 use Rattle.ranges.proofs.relocate.Reads as relocate
 use Rattle.ranges.proofs.overlaps.Reads as overlaps
+use Rattle.ranges.proofs.coded.Reads as coded
+use Rattle.ranges.proofs.word_of.Reads as word-of
 
 pub read-packet-settled : (κs : Lfts 1) (args : _) (x y : _) (e g : _) → read-packet.Learnt κs args x e
     → read-packet.Learnt κs args y g → x ≡ y
@@ -88,3 +90,11 @@ relocate-settled κs args x y e g p q = p ∙ sym q
 pub overlaps-settled : (κs : Lfts 0) (args : _) (x y : _) (e g : _) → overlaps.Learnt κs args x e
     → overlaps.Learnt κs args y g → x ≡ y
 overlaps-settled κs args x y e g p q = p ∙ sym q
+
+pub coded-settled : (κs : Lfts 0) (args : _) (x y : _) (e g : _) → coded.Learnt κs args x e
+    → coded.Learnt κs args y g → x ≡ y
+coded-settled κs args x y e g p q = p .0 ∙ sym (q .0)
+
+pub word-of-settled : (κs : Lfts 0) (args : _) (x y : _) (e g : _) → word-of.Learnt κs args x e
+    → word-of.Learnt κs args y g → x ≡ y
+word-of-settled κs args x y e g p q = p ∙ sym q

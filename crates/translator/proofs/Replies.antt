@@ -1,10 +1,9 @@
 -- The reply reads back, and depends on the visited entries alone.
 use mathlib.Core.Path.{_≡_, refl, sym, ap, _∙_}
 use mathlib.Core.Bool.{Bool, true, false, cond, not, _&&_}
-use mathlib.Core.List.{List, []}
+use mathlib.Core.List.{List, [], _∷_}
 use Prim.Native.Nat.{ℕ, _+_, _*_, _<_, _≤_, _^_}
 use native.Mathlib.Omega.{arith}
-use native.Mathlib.Nat.{le-refl}
 use lib.Dec.{ltb, lit≤}
 use lib.ListN.{length, take, drop}
 use borrow.Author.Tests.{lt-ltb, eq-eqb}
@@ -14,7 +13,8 @@ use Rattle.ranges.specs.declared.Translation.{Translation}
 use Rattle.ranges.specs.Size.{wordOf, translationOf}
 use Rattle.ranges.specs.Range.{regionOf}
 use Rattle.ranges.proofs.Codes.{word-decoded, word-lt}
-use Rattle.packet.specs.declared.Body.the-variants.{Tr}
+use Rattle.packet.specs.declared.Body.{Body}
+use Rattle.packet.specs.declared.Body.the-variants.{Tr, Mem, Cpl, Inv, Ic, Prq, Prs}
 use Rattle.packet.specs.declared.Head.{Head}
 use Rattle.packet.specs.declared.Outcome.{Outcome}
 use Rattle.packet.specs.declared.Outcome.the-variants.{Data, Status}
@@ -22,15 +22,17 @@ use Rattle.packet.specs.declared.Packet.{Packet}
 use Rattle.packet.specs.declared.Tag.{Tag}
 use Rattle.packet.specs.declared.TranslationRequest.{TranslationRequest}
 use Rattle.packet.specs.Numbers.{Result, ok, refusal}
-use Rattle.packet.specs.Frames.{eightBytes}
+use Rattle.packet.specs.Among.{isAmong}
+use Rattle.packet.specs.Frames.{decodeFrame, eightBytes}
 use Rattle.packet.specs.Forms.{dwordCount}
 use Rattle.packet.specs.Kinds.{outcomeInRange, bodyInRange, allowedOutcome, allowedBody, outcomePayloadLength, payloadLength, formOf}
 use Rattle.packet.specs.Reading.{reading, payloadIn, qwordAt}
-use Rattle.packet.specs.Writing.{writing, checkRoom}
-use Rattle.packet.proofs.Laws.{accepted, ok-injective}
+use Rattle.packet.specs.Writing.{bytesOf, writing, checkRoom, bufferAfter}
+use Rattle.packet.proofs.Laws.{ok-injective}
+use Rattle.packet.proofs.Among.{Among, among-ok, among-refusal, among-case, among-monotone, reading-numbers}
 use Rattle.tlp.specs.Fields.{TypedBody, Typed}
 use Rattle.tlp.specs.Translations.{translationAt}
-use Rattle.tlp.proofs.RoundTrips.{taken, read-writes}
+use Rattle.tlp.proofs.RoundTrips.{taken}
 use Rattle.tlp.proofs.Laws.{sent-reads, sent-payload, sent-rest, read-typed}
 use Rattle.tlp.proofs.Qwords.{qword-of-bytes}
 use Rattle.walk.specs.declared.End.{End}
@@ -43,8 +45,8 @@ use Rattle.walk.proofs.Laws.{SoundEnd, walk-sound}
 use Rattle.walk.proofs.Visits.{only-visits-matter}
 use Rattle.translator.specs.declared.Reply.{Reply}
 use Rattle.translator.specs.declared.Report.{Report}
-use Rattle.translator.specs.Translator.{finalRights, translationWith, nullTranslation, translationTo, replyPacket, Prepared, replyTo, repliedIf, answering, bodyTranslated, translated}
-use Rattle.translator.specs.Replies.{Received, dueReply, Holds, ReadsBack, HostReplies}
+use Rattle.translator.specs.Translator.{finalRights, translationWith, nullTranslation, translationTo, replyPacket, Prepared, replyTo, Observation, refusedWith, repliedIf, answering, bodyTranslated, readingTranslated, translated}
+use Rattle.translator.specs.Replies.{Received, dueReply, Holds, ReadsBack, hostNumbers, HostReplies}
 use Rattle.translator.proofs.Laws.{few-dwords}
 
 -- ---- a reply can be written if there is room
@@ -96,73 +98,29 @@ replied-ok : (what : Reply) (visits : ℕ) (w : Result ℕ) (r : Report) → rep
 replied-ok what visits (ok n) r e = ap (λ (x : Report). ok (x .length)) (ok-injective e)
 replied-ok what visits (refusal n) r e = impossible cc
 
-module _ (host : ℕ) (b : List ℕ) (p : Packet) (t : TranslationRequest) (v : Received host b p t) where
+module _ (host : ℕ) (b : List ℕ) (p : Packet) (t : TranslationRequest) (read : reading b ≡ ok p) (request : p .body ≡ Tr t) where
   -- what reading gives
   tc-lt : p .head .tc < 8
-  tc-lt = accepted p _ _ _ (read-writes b p (length b) (v .bytes) (v .read) (le-refl (length b))) .tc
+  unfolding decodeFrame
+  tc-lt = rw (← taken b p read .whole) (omega arith)
 
   pub request-dwords : (2 ≤ t .dwords) × (t .dwords ≤ 32)
-  request-dwords = few-dwords (p .head .tc) t (rw (v .request) at (taken b p (v .read) .allows))
+  request-dwords = few-dwords (p .head .tc) t (rw request at (taken b p read .allows))
 
-  pub typed-request : TypedBody (Tr t)
-  typed-request = rw (v .request) at (read-typed b p (v .bytes) (v .read) .body)
+  due-writes : (e : End) (room : ℕ)
+      → writing (replyTo host (p .head) t e .packet) (length (replyTo host (p .head) t e .load)) room ≡ checkRoom (12 + length (replyTo host (p .head) t e .load)) room
+  due-writes (Mapped m) room = writes host (p .head) (t .tag) 8 120 room tc-lt (lit≤ tt) (lit≤ tt) (Data 2) refl refl
+  due-writes Unmapped room = writes host (p .head) (t .tag) 8 120 room tc-lt (lit≤ tt) (lit≤ tt) (Data 2) refl refl
+  due-writes NotLent room =
+      writes host (p .head) (t .tag) (4 * t .dwords) 0 room tc-lt (omega (arith, request-dwords .1)) (lit≤ tt) (Status 4) refl refl
 
-  typed-reply : (o : Outcome) (count lower : ℕ) → Typed (replyPacket host (p .head) (t .tag) o count lower)
-  unfolding TypedBody
-  typed-reply o count lower =
-      record { sender = v .id; body = (read-typed b p (v .bytes) (v .read) .sender, typed-request .0) }
+  answered : (table out : List ℕ) → translated host b table out ≡ answering host (p .head) t (walked table (t .address)) out
+  unfolding translated bodyTranslated
+  answered table out = rw (read, request)
 
-  module _ (table out : List ℕ) where
-    abbrev w : Walked
-    w = walked table (t .address)
-
-    answered : translated host b table out ≡ answering host (p .head) t w out
-    unfolding translated bodyTranslated
-    answered = rw (v .read, v .request)
-
-    due-writes : (e : End) (room : ℕ)
-        → writing (replyTo host (p .head) t e .packet) (length (replyTo host (p .head) t e .load)) room ≡ checkRoom (12 + length (replyTo host (p .head) t e .load)) room
-    due-writes (Mapped m) room = writes host (p .head) (t .tag) 8 120 room tc-lt (lit≤ tt) (lit≤ tt) (Data 2) refl refl
-    due-writes Unmapped room = writes host (p .head) (t .tag) 8 120 room tc-lt (lit≤ tt) (lit≤ tt) (Data 2) refl refl
-    due-writes NotLent room =
-        writes host (p .head) (t .tag) (4 * t .dwords) 0 room tc-lt (omega (arith, request-dwords .1)) (lit≤ tt) (Status 4) refl refl
-
-    due-typed : (e : End) → Typed (replyTo host (p .head) t e .packet)
-    due-typed (Mapped m) = typed-reply (Data 2) 8 120
-    due-typed Unmapped = typed-reply (Data 2) 8 120
-    due-typed NotLent = typed-reply (Status 4) (4 * t .dwords) 0
-
-    due-holds : (e : End) → SoundEnd e → Holds t e (replyTo host (p .head) t e .load)
-    due-holds (Mapped m) s = decodes-page (t .nowrite) m s
-    due-holds Unmapped s = decodes-null
-    due-holds NotLent s = refl
-
-    answers : translated host b table out .answer ≡ repliedIf (dueReply host table p t .reply) (length (w .visits)) (checkRoom (12 + length (dueReply host table p t .load)) (length out))
-    answers =
-        rw answered (ap (repliedIf (dueReply host table p t .reply) (length (w .visits))) (due-writes (w .end) (length out)))
-
-    module _ (r : Report) (e : translated host b table out .answer ≡ ok r) where
-      abbrev x : Prepared
-      x = dueReply host table p t
-
-      written : writing (x .packet) (length (x .load)) (length out) ≡ ok (r .length)
-      written = replied-ok (x .reply) (length (w .visits)) _ r (rw answered at e)
-
-      load-is : payloadIn (take (r .length) (translated host b table out .buffer)) ≡ x .load
-      load-is = rw answered (sent-payload (x .packet) (x .load) out (r .length) written (due-typed (w .end)))
-
-      holds : Holds t (w .end) (payloadIn (take (r .length) (translated host b table out .buffer)))
-      holds = rw load-is (due-holds (w .end) (walk-sound table (t .address)))
-
-      reads-back : ReadsBack host b table out p t r
-      reads-back =
-          record {
-            packet = rw answered (sent-reads (x .packet) (x .load) out (r .length) written (due-typed (w .end)));
-            load = load-is;
-            holds = holds;
-            noWrite = λ n. no-write-held t (w .end) _ holds n;
-            rest = rw answered (sent-rest (x .packet) (x .load) out (r .length) written);
-          }
+  answers : (table out : List ℕ) → translated host b table out .answer ≡ repliedIf (dueReply host table p t .reply) (length (walked table (t .address) .visits)) (checkRoom (12 + length (dueReply host table p t .load)) (length out))
+  answers table out =
+      rw (answered table out) (ap (repliedIf (dueReply host table p t .reply) (length (walked table (t .address) .visits))) (due-writes (walked table (t .address) .end) (length out)))
 
   same-tables : (s u out : List ℕ) → length s ≡ length u → SameAt (walked s (t .address) .visits) s u
       → translated host b s out ≡ translated host b u out
@@ -171,10 +129,103 @@ module _ (host : ℕ) (b : List ℕ) (p : Packet) (t : TranslationRequest) (v : 
       ∙ ap (λ (k : Walked). answering host (p .head) t k out) (only-visits-matter .same s u (t .address) long same)
       ∙ sym (answered u out)
 
+module _ (host : ℕ) (b : List ℕ) (p : Packet) (t : TranslationRequest) (v : Received host b p t) where
+  pub typed-request : TypedBody (Tr t)
+  typed-request = rw (v .request) at (read-typed b p (v .bytes) (v .read) .body)
+
+  typed-reply : (o : Outcome) (count lower : ℕ) → Typed (replyPacket host (p .head) (t .tag) o count lower)
+  unfolding TypedBody
+  typed-reply o count lower =
+      record { sender = v .id; body = (read-typed b p (v .bytes) (v .read) .sender, typed-request .0) }
+
+  due-typed : (e : End) → Typed (replyTo host (p .head) t e .packet)
+  due-typed (Mapped m) = typed-reply (Data 2) 8 120
+  due-typed Unmapped = typed-reply (Data 2) 8 120
+  due-typed NotLent = typed-reply (Status 4) (4 * t .dwords) 0
+
+  due-holds : (e : End) → SoundEnd e → Holds t e (replyTo host (p .head) t e .load)
+  due-holds (Mapped m) s = decodes-page (t .nowrite) m s
+  due-holds Unmapped s = decodes-null
+  due-holds NotLent s = refl
+
+  module _ (table out : List ℕ) (r : Report) (e : translated host b table out .answer ≡ ok r) where
+    abbrev x : Prepared
+    x = dueReply host table p t
+
+    abbrev w : Walked
+    w = walked table (t .address)
+
+    is : translated host b table out ≡ answering host (p .head) t w out
+    is = answered host b p t (v .read) (v .request) table out
+
+    written : writing (x .packet) (length (x .load)) (length out) ≡ ok (r .length)
+    written = replied-ok (x .reply) (length (w .visits)) _ r (rw is at e)
+
+    load-is : payloadIn (take (r .length) (translated host b table out .buffer)) ≡ x .load
+    load-is = rw is (sent-payload (x .packet) (x .load) out (r .length) written (due-typed (w .end)))
+
+    holds : Holds t (w .end) (payloadIn (take (r .length) (translated host b table out .buffer)))
+    holds = rw load-is (due-holds (w .end) (walk-sound table (t .address)))
+
+    reads-back : ReadsBack host b table out p t r
+    reads-back =
+        record {
+          packet = rw is (sent-reads (x .packet) (x .load) out (r .length) written (due-typed (w .end)));
+          load = load-is;
+          holds = holds;
+          noWrite = λ n. no-write-held t (w .end) _ holds n;
+          rest = rw is (sent-rest (x .packet) (x .load) out (r .length) written);
+        }
+
+-- ---- refusals
+
+-- refused with one of the numbers, and nothing written
+abbrev Refuses : List ℕ → Observation → Type 0
+Refuses out o = (n : ℕ) → o .answer ≡ refusal n → (isAmong n hostNumbers ≡ true) × (o .buffer ≡ out)
+
+module _ (host : ℕ) (b table out : List ℕ) where
+  refuses-with : (n : ℕ) → isAmong n hostNumbers ≡ true → Refuses out (refusedWith n out)
+  refuses-with n h k e = let same : n ≡ k = cc in (rw same at h, refl)
+
+  -- a reply that can be written is refused only for want of room
+  refuses-written : (what : Reply) (visits : ℕ) (bytes : List ℕ) (w : Result ℕ) → Among hostNumbers w
+      → Refuses out (record { answer = repliedIf what visits w; buffer = bufferAfter w bytes out })
+  refuses-written what visits bytes (ok n) a k e = impossible cc
+  refuses-written what visits bytes (refusal n) a k e = let same : n ≡ k = cc in (rw same at (a .one n refl), refl)
+
+  refuses-due : (p : Packet) (t : TranslationRequest) → reading b ≡ ok p → p .body ≡ Tr t → (w : Walked)
+      → Refuses out (answering host (p .head) t w out)
+  refuses-due p t read request w =
+      let x = replyTo host (p .head) t (w .end) in
+      let n = 12 + length (x .load) in
+      rw (due-writes host b p t read request (w .end) (length out))
+      (refuses-written (x .reply) (length (w .visits)) (bytesOf (x .packet) (x .load)) (checkRoom n (length out))
+      (among-case hostNumbers (ltb (length out) n) (refusal 17) (ok n) (λ short. among-refusal hostNumbers 17 refl) (λ fits. among-ok hostNumbers n)))
+
+  refuses-body : (p : Packet) → reading b ≡ ok p → (y : Body) → p .body ≡ y → Refuses out (bodyTranslated host table out (p .head) y)
+  unfolding bodyTranslated
+  refuses-body p read (Tr t) request = refuses-due p t read request (walked table (t .address))
+  refuses-body p read (Mem m) e = refuses-with 2 refl
+  refuses-body p read (Cpl c) e = refuses-with 2 refl
+  refuses-body p read (Inv i) e = refuses-with 2 refl
+  refuses-body p read (Ic i) e = refuses-with 2 refl
+  refuses-body p read (Prq q) e = refuses-with 2 refl
+  refuses-body p read (Prs s) e = refuses-with 2 refl
+
+  refuses-read : (s : Result Packet) → reading b ≡ s → Refuses out (readingTranslated host table out s)
+  refuses-read (ok p) e = refuses-body p e (p .body) refl
+  refuses-read (refusal n) e =
+      refuses-with n (among-monotone (1 ∷ 2 ∷ 3 ∷ 4 ∷ []) hostNumbers (reading b) refl (reading-numbers b) .one n e)
+
+  refuses : Refuses out (translated host b table out)
+  unfolding translated
+  refuses = refuses-read (reading b) refl
+
 pub host-replies : HostReplies
 host-replies =
     record {
-      answer = λ host b table out p t v. answers host b p t v table out;
+      answer = λ host b table out p t read request. answers host b p t read request table out;
       reads = λ host b table out p t r v e. reads-back host b p t v table out r e;
-      tables = λ host b t u out p q v long same. same-tables host b p q v t u out long same;
+      tables = λ host b t u out p q read request long same. same-tables host b p q read request t u out long same;
+      refused = λ host b table out n e. refuses host b table out n e;
     }

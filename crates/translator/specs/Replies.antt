@@ -1,13 +1,14 @@
 -- What a reply is when it is read again, and what it depends on. 02, "b".
 use mathlib.Core.Path.{_≡_}
 use mathlib.Core.Bool.{true, false}
-use mathlib.Core.List.{List}
+use mathlib.Core.List.{List, [], _∷_}
 use Prim.Native.Nat.{ℕ, _+_, _<_}
 use lib.ListN.{length, take, drop}
 use Rattle.packet.specs.declared.Body.the-variants.{Tr}
 use Rattle.packet.specs.declared.Packet.{Packet}
 use Rattle.packet.specs.declared.TranslationRequest.{TranslationRequest}
-use Rattle.packet.specs.Numbers.{ok}
+use Rattle.packet.specs.Numbers.{ok, refusal}
+use Rattle.packet.specs.Among.{isAmong}
 use Rattle.packet.specs.Reading.{reading, payloadIn}
 use Rattle.packet.specs.Writing.{checkRoom}
 use Rattle.tlp.specs.Bytes.{Bytes}
@@ -48,12 +49,20 @@ pub record ReadsBack (host : ℕ) (b table out : List ℕ) (p : Packet) (t : Tra
   pub noWrite : t .nowrite ≡ true → translationAt (payloadIn (sentFor host b table out r)) 0 .w ≡ false
   pub rest : drop (r .length) (translated host b table out .buffer) ≡ drop (r .length) out
 
--- Every request is answered, unless the buffer has no room for the 12 bytes of a header and the payload. The answer counts
--- the entries of the walk. Entries that the walk does not read, and other bits of those that it reads, change nothing.
+-- the numbers of reading, and 2; then 17
+abbrev pub hostNumbers : List ℕ
+hostNumbers = 1 ∷ 2 ∷ 3 ∷ 4 ∷ 17 ∷ []
+
 pub record HostReplies : Type 0 where
-  pub answer : (host : ℕ) (b table out : List ℕ) (p : Packet) (t : TranslationRequest) → Received host b p t
+  -- A request is answered, unless the buffer has no room for the 12 bytes of a header and the payload. The answer counts
+  -- the entries that the walk read.
+  pub answer : (host : ℕ) (b table out : List ℕ) (p : Packet) (t : TranslationRequest) → reading b ≡ ok p → p .body ≡ Tr t
       → translated host b table out .answer ≡ repliedIf (dueReply host table p t .reply) (length (walked table (t .address) .visits)) (checkRoom (12 + length (dueReply host table p t .load)) (length out))
   pub reads : (host : ℕ) (b table out : List ℕ) (p : Packet) (t : TranslationRequest) (r : Report) → Received host b p t
       → translated host b table out .answer ≡ ok r → ReadsBack host b table out p t r
-  pub tables : (host : ℕ) (b t u out : List ℕ) (p : Packet) (q : TranslationRequest) → Received host b p q
+  -- Entries that the walk does not read change nothing, nor do other bits of those that it reads.
+  pub tables : (host : ℕ) (b t u out : List ℕ) (p : Packet) (q : TranslationRequest) → reading b ≡ ok p → p .body ≡ Tr q
       → length t ≡ length u → SameAt (walked t (q .address) .visits) t u → translated host b t out ≡ translated host b u out
+  -- A refusal is one of these numbers, and leaves the buffer unchanged.
+  pub refused : (host : ℕ) (b table out : List ℕ) (n : ℕ) → translated host b table out .answer ≡ refusal n
+      → (isAmong n hostNumbers ≡ true) × (translated host b table out .buffer ≡ out)

@@ -1,4 +1,5 @@
-// The host's translator. It takes a Translation Request and lent page tables, and sends the reply.
+// The public interface of the host: it takes a Translation Request and lent page tables, and sends
+// the reply.
 use packet::Body;
 use packet::Completion;
 use packet::Head;
@@ -11,10 +12,11 @@ use packet::TranslationRequest;
 use packet::Writing;
 use ranges::Size;
 use ranges::Translation;
-use walk::End;
-use walk::Mapping;
-use walk::Rights;
-use walk::Walk;
+pub use walk::End;
+pub use walk::Mapping;
+pub use walk::Rights;
+pub use walk::Walk;
+pub use walk::walk_tables;
 ghost use mathlib.Core.Path.{_≡_};
 ghost use mathlib.Core.Bool.{true};
 ghost use Prim.Native.Nat.{_≤_};
@@ -159,7 +161,7 @@ fn send_translation(
 ) -> Translating
     ensures { λ r. ⌜ observation r (now (out .exit)) ≡ replyingAs (translationReply host h tag x) visits (now (out .entry)) ⌝ }
 {
-    let payload = eight_bytes(ranges::word_of(x));
+    let payload = eight_bytes(tlp::word_of(x));
     let p = reply_packet(host, h, tag, Outcome::Data(2), 8, 120);
     send(Reply::Translated, p, &payload, visits, out)
 }
@@ -205,7 +207,7 @@ fn translate_body(host: u16, h: Head, body: Body, table: &[u64], out: &mut [u8])
     ensures { λ r. ⌜ observation r (now (out .exit)) ≡ bodyTranslated host (now (table .entry)) (now (out .entry)) h body ⌝ }
 {
     match body {
-        Body::Tr(t) => answer(host, h, t, walk::walk_tables(table, t.address), out),
+        Body::Tr(t) => answer(host, h, t, walk_tables(table, t.address), out),
         Body::Mem(_) => Translating::Refused(Refusal::UnsupportedKind),
         Body::Cpl(_) => Translating::Refused(Refusal::UnsupportedKind),
         Body::Inv(_) => Translating::Refused(Refusal::UnsupportedKind),

@@ -57,7 +57,8 @@ def trails(node):
         node.counts = True
         return branches([body for _, body in parts[1]])
     if kind in ("while", "for"):
-        return [((at,), True) for at in returns_in(parts[-1])] + [((), False)]
+        endless = kind == "while" and parts[0].kind == "number" and "break" not in kinds_in(parts[1])
+        return [((at,), True) for at in returns_in(parts[-1])] + ([] if endless else [((), False)])
     return [((), False)]
 
 
@@ -74,16 +75,22 @@ def branches(bodies):
     return [((k,) + trail, over) for k, body in enumerate(bodies) for trail, over in (trails(body) if body else [((), False)])]
 
 
+def inside(node):
+    """The pieces of which a piece of code is made."""
+    each = [one for part in node.parts for one in (part if isinstance(part, list) else [part])]
+    return [one for one in (one[1] if isinstance(one, tuple) else one for one in each) if isinstance(one, Node)]
+
+
 def returns_in(node):
     """The `return`s in the body of a loop."""
     if node.kind == "return":
         return ["return at %d" % node.at]
-    found = []
-    for part in node.parts:
-        for one in part if isinstance(part, list) else [part]:
-            inner = one[1] if isinstance(one, tuple) else one
-            found += returns_in(inner) if isinstance(inner, Node) else []
-    return found
+    return [found for one in inside(node) for found in returns_in(one)]
+
+
+def kinds_in(node):
+    """The kinds of a piece of code and of all in it."""
+    return {node.kind}.union(*map(kinds_in, inside(node)))
 
 
 class Parser:

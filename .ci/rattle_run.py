@@ -165,7 +165,7 @@ class Run:
         if kind[0] == "ref":
             return self.draw(kind[2], key)
         if kind[0] == "slice":
-            return Row(self, kind[1], self.draw_number(16, key + "#") % 300, key)
+            return Row(self, kind[1], self.draw_number(16, key + "#") % (1100 if kind[1] == ("int", 64) else 300), key)
         if kind[0] == "array":
             return Row(self, kind[1], self.value(kind[2], {}), key)
         if kind[0] == "unit":

@@ -1,4 +1,5 @@
-use mathlib.Core.Path.{sym, _∙_}
+use mathlib.Core.Path.{sym, ap, _∙_}
+use Rattle.walk.specs.Walk.{isNone}
 use borrow.Author.Needs.{needs}
 use Rattle.translator.proofs.translation_to.Statement.{statement}
 use Rattle.translator.proofs.translation_to.Tie as tie
@@ -17,12 +18,12 @@ translation-with-requires c κs = search needs
 
 returns : tie.Need-returns
 returns c =
-    let e = rw (c .before .before .before .final-rights .ensures) at (sym (c .before .before .is-none .ensures) ∙ c .before .if1 .taken) in
+    let e = ap isNone (sym (c .before .before .before .final-rights .ensures)) ∙ sym (c .before .before .is-none .ensures) ∙ c .before .if1 .taken in
     rw (c .null-translation .ensures, e)
 
 returns-2 : tie.Need-returns-2
 returns-2 c =
-    let e = rw (c .before .before .before .final-rights .ensures) at (sym (c .before .before .is-none .ensures) ∙ c .before .if1 .left) in
+    let e = ap isNone (sym (c .before .before .before .final-rights .ensures)) ∙ sym (c .before .before .is-none .ensures) ∙ c .before .if1 .left in
     rw (c .translation-with .ensures, c .before .before .before .final-rights .ensures, e)
 
 pub translation-to-spec : {M : Type 1} → statement M

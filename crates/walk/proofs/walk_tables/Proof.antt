@@ -1,8 +1,8 @@
-use mathlib.Core.Path.{_≡_, refl, sym, _∙_}
+use mathlib.Core.Path.{_≡_, refl, sym, ap, _∙_}
 use Prim.Native.Nat.{_+_, _-_, _^_, _<_, _≤_}
 use native.Mathlib.Omega.{arith}
 use borrow.Author.Tests.{le-leb, lt-leb}
-use Rattle.walk.specs.Walk.{allRights, walkFrom, walked, counted}
+use Rattle.walk.specs.Walk.{allRights, isNone, walkFrom, walked, counted}
 use Rattle.walk.proofs.Laws.{after, after-start, level-below, not-lent, grants-none, maps-page, goes-on}
 use borrow.Author.Needs.{needs}
 use Rattle.walk.proofs.walk_tables.Statement.{statement}
@@ -17,11 +17,11 @@ abbrev μ-loop : tie.MeasureT-loop
 
 returns : tie.Need-returns Inv-loop μ-loop
 unfolding walked
-returns c = rw (le-leb _ _ (c .if1 .taken))
+returns c = rw (le-leb (2 ^ 48) _ (c .if1 .taken))
 
 loop-holds : tie.Need-loop-holds Inv-loop μ-loop
 unfolding walked
-loop-holds c = (search needs, search needs, rw (lt-leb _ _ (c .if1 .left)) (after-start (walkFrom 3 _ _ 0 allRights)))
+loop-holds c = (search needs, search needs, rw (lt-leb (2 ^ 48) _ (c .if1 .left)) (after-start (walkFrom 3 _ _ 0 allRights)))
 
 sub-below : tie.Need-sub-below Inv-loop μ-loop
 sub-below c = search needs
@@ -66,7 +66,7 @@ returns-3 : tie.Need-returns-3 Inv-loop μ-loop
 returns-3 c =
     let at = c .before .before .before .before in
     let l = at .before .before .before .loop in
-    let none = rw (c .before .before .before .rights-in .ensures, at .before .index-at .ensures .0) at (sym (c .before .is-none .ensures) ∙ c .if3 .taken) in
+    let none = rw (at .before .index-at .ensures .0) at (ap isNone (sym (c .before .before .before .rights-in .ensures)) ∙ sym (c .before .is-none .ensures) ∙ c .if3 .taken) in
     sym (l .inv .2 ∙ grants-none (l .visits) _ _ _ (l .k) (l .granted) (at .before .before .if2 .left) none)
 
 is-page-requires : tie.Need-is-page-requires Inv-loop μ-loop
@@ -81,7 +81,7 @@ returns-4 c =
     let l = at .before .before .before .loop in
     let own = c .before .before .before .before .before .before .rights-in .ensures in
     let index = at .before .index-at .ensures .0 in
-    let none = rw (own, index) at (sym (c .before .before .before .before .is-none .ensures) ∙ c .before .before .before .if3 .left) in
+    let none = rw index at (ap isNone (sym own) ∙ sym (c .before .before .before .before .is-none .ensures) ∙ c .before .before .before .if3 .left) in
     let page = rw index at (sym (c .before .before .is-page .ensures) ∙ c .before .if4 .taken) in
     rw (c .page-of .ensures, c .before .before .before .before .before .both-grant .ensures, own, index) (sym (l .inv .2 ∙ maps-page (l .visits) _ _ _ (l .k) (l .granted) (at .before .before .if2 .left) none page))
 
@@ -97,7 +97,7 @@ loop-again c =
     let l = at .before .before .before .loop in
     let own = c .before .before .before .before .before .before .rights-in .ensures in
     let index = at .before .index-at .ensures .0 in
-    let none = rw (own, index) at (sym (c .before .before .before .before .is-none .ensures) ∙ c .before .before .before .if3 .left) in
+    let none = rw index at (ap isNone (sym own) ∙ sym (c .before .before .before .before .is-none .ensures) ∙ c .before .before .before .if3 .left) in
     let page = rw index at (sym (c .before .before .is-page .ensures) ∙ c .before .if4 .left) in
     let level : 3 - (l .visits + 1) ≡ 3 - l .visits - 1 = omega arith in
     (omega (arith, level-below (3 - l .visits) _ page), c .number-in .ensures .1, rw (level, c .number-in .ensures .0, c .before .before .before .before .before .both-grant .ensures, own, index) (l .inv .2 ∙ goes-on (l .visits) _ _ _ (l .k) (l .granted) (at .before .before .if2 .left) none page))

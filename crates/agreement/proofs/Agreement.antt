@@ -34,8 +34,8 @@ use Rattle.walk.specs.declared.Rights.{Rights}
 use Rattle.walk.specs.Walk.{isNone, walked}
 use Rattle.walk.proofs.Laws.{SoundEnd, walk-sound, LowEnd, walk-low}
 use Rattle.translator.specs.declared.Report.{Report}
-use Rattle.translator.specs.Translator.{finalRights, nullTranslation, translationWith, translationTo, replyPacket, replyTo, translated}
-use Rattle.translator.specs.Replies.{Received, Holds, sentFor}
+use Rattle.translator.specs.Translator.{finalRights, nullTranslation, translationWith, translationTo, replyPacket, replyTo, translating}
+use Rattle.translator.specs.Replies.{ValidRequest, Holds, sentFor}
 use Rattle.translator.proofs.Replies.{typed-request, request-dwords, host-replies}
 use Rattle.agreement.specs.Agreement.{Outstanding, requestUnits, pageTaken, stateAfter, answerTo, HostAndCardAgree}
 use Rattle.agreement.proofs.Fits.{newRequest, only-packet}
@@ -43,7 +43,7 @@ use Rattle.agreement.proofs.Fills.{null-applied, page-applied}
 use Rattle.agreement.proofs.Found.{last-found, all-found}
 use Rattle.agreement.proofs.Asked.{leaves}
 
-module _ (host : ℕ) (b : List ℕ) (p : Packet) (t : TranslationRequest) (f : Function) (v : Received host b p t) (o : Outstanding f p t) where
+module _ (host : ℕ) (b : List ℕ) (p : Packet) (t : TranslationRequest) (f : Function) (v : ValidRequest host b p t) (o : Outstanding f p t) where
   abbrev q : PendingTranslation
   q = newRequest (o .asked) (requestUnits t - 1)
 
@@ -83,7 +83,7 @@ module _ (host : ℕ) (b : List ℕ) (p : Packet) (t : TranslationRequest) (f : 
   page-received m s sound low reads eight given =
       byCases (isNone (finalRights (t .nowrite) (m .rights)))
       (λ none. rw none (null-received s reads eight (rw none at given)))
-      (λ right. rw right (data-received s (translationWith (m .frame) (m .exponent) g) (m .exponent) _ reads eight (rw right at given) refl (sound .0)
+      (λ right. rw right (data-received s (translationWith (m .base) (m .exponent) g) (m .exponent) _ reads eight (rw right at given) refl (sound .0)
       (page-applied t m g (o .asked) (payloadIn s) some few (o .page) low eight (rw right at given) (sound .0) (sound .1) (sound .2) right (f .cache))))
     where
       g : Rights
@@ -103,7 +103,7 @@ module _ (host : ℕ) (b : List ℕ) (p : Packet) (t : TranslationRequest) (f : 
   end-received Unmapped s sound low reads load holds = null-received s reads (ap length load) holds
   end-received NotLent s sound low reads load holds = status-received s reads
 
-  replied : (table out : List ℕ) (r : Report) → translated host b table out .answer ≡ ok r
+  replied : (table out : List ℕ) (r : Report) → translating host b table out .answer ≡ ok r
       → received f (sentFor host b table out r) ≡ sendsNothing (stateAfter f t (walked table (t .address) .end)) (answerTo (walked table (t .address) .end))
   replied table out r e =
       let back = host-replies .reads host b table out p t r v e in

@@ -131,14 +131,14 @@ module _ (asked n : ℕ) (load : List ℕ) (some : 1 ≤ n) (few : n ≤ 16) (fi
 module _ (t : TranslationRequest) (m : Mapping) (g : Rights) (asked : ℕ) (load : List ℕ)
     (some : 1 ≤ requestUnits t) (few : requestUnits t ≤ 16) (page : asked / 4096 * 4096 ≡ t .address)
     (small : t .address < 2 ^ 48) (eight : length load ≡ 8)
-    (given : translationAt load 0 ≡ translationWith (m .frame) (m .exponent) g) (low : 12 ≤ m .exponent) (up : m .exponent ≤ 64)
-    (aligned : regionOf (m .frame) (m .exponent) .first ≡ m .frame) (right : isNone g ≡ false) where
+    (given : translationAt load 0 ≡ translationWith (m .base) (m .exponent) g) (low : 12 ≤ m .exponent) (up : m .exponent ≤ 64)
+    (aligned : regionOf (m .base) (m .exponent) .first ≡ m .base) (right : isNone g ≡ false) where
   fits : asked / 4096 * 4096 < 2 ^ 64
   fits = rw page (omega arith)
 
-  entry-is : (unit : ℕ) → entryOf (translationWith (m .frame) (m .exponent) g) (m .exponent) unit ≡ pageEntry m g unit
+  entry-is : (unit : ℕ) → entryOf (translationWith (m .base) (m .exponent) g) (m .exponent) unit ≡ pageEntry m g unit
   entry-is unit =
-      ap (λ (to : ℕ). record { used = true; r = g .r; w = g .w; n = false; u = false; unit = unit; to = to }) (moved (m .frame) unit (m .exponent) up aligned)
+      ap (λ (to : ℕ). record { used = true; r = g .r; w = g .w; n = false; u = false; unit = unit; to = to }) (moved (m .base) unit (m .exponent) up aligned)
 
   grants : (r w : Bool) → not (r || w) ≡ false → (r || w) ≡ true
   grants true w h = refl
@@ -146,14 +146,14 @@ module _ (t : TranslationRequest) (m : Mapping) (g : Rights) (asked : ℕ) (load
   grants false false h = impossible cc
 
   abbrev pageStep : ℕ → Cache → Cache
-  pageStep = updatedUnit asked (requestUnits t) load (translationWith (m .frame) (m .exponent) g) (m .exponent) some few fits eight given refl low
+  pageStep = updatedUnit asked (requestUnits t) load (translationWith (m .base) (m .exponent) g) (m .exponent) some few fits eight given refl low
 
   step-is : (j : ℕ) (c : Cache) → j < requestUnits t → pageStep j c ≡ unitFilled t m g j c
   unfolding unitUpdated
   step-is j c l =
-      rw (le-ltb _ _ (range-holds asked (requestUnits t) load (translationWith (m .frame) (m .exponent) g) (m .exponent) some few fits eight given refl low (rw page small) j l), page, grants (g .r) (g .w) right, entry-is (t .address + j * 4096))
+      rw (le-ltb _ _ (range-holds asked (requestUnits t) load (translationWith (m .base) (m .exponent) g) (m .exponent) some few fits eight given refl low (rw page small) j l), page, grants (g .r) (g .w) right, entry-is (t .address + j * 4096))
 
   pub page-applied : (c : Cache) → applied (newRequest asked (requestUnits t - 1)) load c ≡ unitsFilled t m g (requestUnits t) c
   page-applied c =
-      applied-is asked (requestUnits t) load (translationWith (m .frame) (m .exponent) g) (m .exponent) some few fits eight given refl low c
+      applied-is asked (requestUnits t) load (translationWith (m .base) (m .exponent) g) (m .exponent) some few fits eight given refl low c
       ∙ iterate-same pageStep (unitFilled t m g) (requestUnits t) c (λ j d l. step-is j d l)

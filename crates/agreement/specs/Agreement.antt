@@ -29,8 +29,8 @@ use Rattle.walk.specs.declared.Mapping.{Mapping}
 use Rattle.walk.specs.declared.Rights.{Rights}
 use Rattle.walk.specs.Walk.{isNone, walked}
 use Rattle.translator.specs.declared.Report.{Report}
-use Rattle.translator.specs.Translator.{finalRights, translated}
-use Rattle.translator.specs.Replies.{Received, sentFor}
+use Rattle.translator.specs.Translator.{finalRights, translating}
+use Rattle.translator.specs.Replies.{ValidRequest, sentFor}
 
 -- E is set, and the Function's request is outstanding as an ask with STU 0 leaves it: not stale, and no reply to it taken.
 -- Bits 11:0 of the address asked for are not in the request.
@@ -65,7 +65,7 @@ pageEntry m g unit =
       n = false;
       u = false;
       unit = unit;
-      to = m .frame + unit % 2 ^ m .exponent;
+      to = m .base + unit % 2 ^ m .exponent;
     }
 
 abbrev pub unitFilled : TranslationRequest → Mapping → Rights → ℕ → Cache → Cache
@@ -105,9 +105,9 @@ FoundAfter t m g c j =
     found (unitsFilled t m g (requestUnits t) c) (requestUnit t j) ≡ Hit (pageEntry m g (requestUnit t j))
 
 pub record HostAndCardAgree : Type 0 where
-  -- Received by the Function that asked, the host's reply fills what the walk found. The RCB of the Function may be either.
+  -- ValidRequest by the Function that asked, the host's reply fills what the walk found. The RCB of the Function may be either.
   pub reply : (host : ℕ) (b table out : List ℕ) (p : Packet) (t : TranslationRequest) (r : Report) (f : Function)
-      → Received host b p t → translated host b table out .answer ≡ ok r → Outstanding f p t
+      → ValidRequest host b p t → translating host b table out .answer ≡ ok r → Outstanding f p t
       → received f (sentFor host b table out r) ≡ sendsNothing (stateAfter f t (walked table (t .address) .end)) (answerTo (walked table (t .address) .end))
   -- The last unit filled is found afterwards, and every one of them if no fill uses the hand.
   pub lastFound : (t : TranslationRequest) (m : Mapping) (g : Rights) (c : Cache) (j : ℕ) → SoundCache c

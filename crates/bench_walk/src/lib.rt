@@ -19,9 +19,9 @@ fn if_set(flag: bool, number: u64) -> u64 {
     if flag { number } else { 0 }
 }
 
-// The frame's low 12 bits are 0.
+// The low 12 bits of the base are 0.
 fn pack_page(m: Mapping) -> u64 {
-    m.frame | m.exponent as u64 | if_set(m.rights.r, 64) | if_set(m.rights.w, 128)
+    m.base | m.exponent as u64 | if_set(m.rights.r, 64) | if_set(m.rights.w, 128)
 }
 
 fn pack_end(end: End) -> u64 {
@@ -43,8 +43,8 @@ fn pack_walk(w: Walk) -> u64 {
 
 fn pack_reply(reply: Reply) -> u64 {
     match reply {
-        Reply::Translated => 0,
-        Reply::Aborted => 2048,
+        Reply::Successful => 0,
+        Reply::CompleterAbort => 2048,
     }
 }
 

@@ -69,8 +69,8 @@ fn first_entries(space: &[u64], entries: usize) -> &[u64] {
 
 fn letter(reply: Reply) -> u8 {
     match reply {
-        Reply::Translated => b'T',
-        Reply::Aborted => b'S',
+        Reply::Successful => b'T',
+        Reply::CompleterAbort => b'S',
     }
 }
 

@@ -45,8 +45,8 @@ use Rattle.walk.proofs.Laws.{SoundEnd, walk-sound}
 use Rattle.walk.proofs.Visits.{only-visits-matter}
 use Rattle.translator.specs.declared.Reply.{Reply}
 use Rattle.translator.specs.declared.Report.{Report}
-use Rattle.translator.specs.Translator.{finalRights, translationWith, nullTranslation, translationTo, replyPacket, Prepared, replyTo, Observation, refusedWith, repliedIf, answering, bodyTranslated, readingTranslated, translated}
-use Rattle.translator.specs.Replies.{Received, dueReply, Holds, ReadsBack, hostNumbers, HostReplies}
+use Rattle.translator.specs.Translator.{finalRights, translationWith, nullTranslation, translationTo, replyPacket, Prepared, replyTo, Observation, refusedWith, repliedIf, answering, translatingBody, translatingIf, translating}
+use Rattle.translator.specs.Replies.{ValidRequest, dueReply, Holds, ReadsBack, hostNumbers, HostReplies}
 use Rattle.translator.proofs.Laws.{few-dwords}
 
 -- ---- a reply can be written if there is room
@@ -76,7 +76,7 @@ decodes-page : (nowrite : Bool) (m : Mapping) → SoundEnd (Mapped m)
 decodes-page nowrite m s =
     either-case (λ (x : Translation). translationAt (eightBytes (wordOf x)) 0 ≡ x) (isNone (finalRights nowrite (m .rights))) _ _
     (λ none. decodes-null)
-    (λ some. decodes (m .frame) (m .exponent) (finalRights nowrite (m .rights)) (s .0) (s .1) (s .2) (s .3))
+    (λ some. decodes (m .base) (m .exponent) (finalRights nowrite (m .rights)) (s .0) (s .1) (s .2) (s .3))
 
 -- No Write leaves no W
 no-write : (m : Mapping) → translationTo true m .w ≡ false
@@ -114,22 +114,22 @@ module _ (host : ℕ) (b : List ℕ) (p : Packet) (t : TranslationRequest) (read
   due-writes NotLent room =
       writes host (p .head) (t .tag) (4 * t .dwords) 0 room tc-lt (omega (arith, request-dwords .1)) (lit≤ tt) (Status 4) refl refl
 
-  answered : (table out : List ℕ) → translated host b table out ≡ answering host (p .head) t (walked table (t .address)) out
-  unfolding translated bodyTranslated
+  answered : (table out : List ℕ) → translating host b table out ≡ answering host (p .head) t (walked table (t .address)) out
+  unfolding translating translatingBody
   answered table out = rw (read, request)
 
-  answers : (table out : List ℕ) → translated host b table out .answer ≡ repliedIf (dueReply host table p t .reply) (length (walked table (t .address) .visits)) (checkRoom (12 + length (dueReply host table p t .load)) (length out))
+  answers : (table out : List ℕ) → translating host b table out .answer ≡ repliedIf (dueReply host table p t .reply) (length (walked table (t .address) .visits)) (checkRoom (12 + length (dueReply host table p t .load)) (length out))
   answers table out =
       rw (answered table out) (ap (repliedIf (dueReply host table p t .reply) (length (walked table (t .address) .visits))) (due-writes (walked table (t .address) .end) (length out)))
 
   same-tables : (s u out : List ℕ) → length s ≡ length u → SameAt (walked s (t .address) .visits) s u
-      → translated host b s out ≡ translated host b u out
+      → translating host b s out ≡ translating host b u out
   same-tables s u out long same =
       answered s out
       ∙ ap (λ (k : Walked). answering host (p .head) t k out) (only-visits-matter .same s u (t .address) long same)
       ∙ sym (answered u out)
 
-module _ (host : ℕ) (b : List ℕ) (p : Packet) (t : TranslationRequest) (v : Received host b p t) where
+module _ (host : ℕ) (b : List ℕ) (p : Packet) (t : TranslationRequest) (v : ValidRequest host b p t) where
   pub typed-request : TypedBody (Tr t)
   typed-request = rw (v .request) at (read-typed b p (v .bytes) (v .read) .body)
 
@@ -148,23 +148,23 @@ module _ (host : ℕ) (b : List ℕ) (p : Packet) (t : TranslationRequest) (v : 
   due-holds Unmapped s = decodes-null
   due-holds NotLent s = refl
 
-  module _ (table out : List ℕ) (r : Report) (e : translated host b table out .answer ≡ ok r) where
+  module _ (table out : List ℕ) (r : Report) (e : translating host b table out .answer ≡ ok r) where
     abbrev x : Prepared
     x = dueReply host table p t
 
     abbrev w : Walked
     w = walked table (t .address)
 
-    is : translated host b table out ≡ answering host (p .head) t w out
+    is : translating host b table out ≡ answering host (p .head) t w out
     is = answered host b p t (v .read) (v .request) table out
 
     written : writing (x .packet) (length (x .load)) (length out) ≡ ok (r .length)
     written = replied-ok (x .reply) (length (w .visits)) _ r (rw is at e)
 
-    load-is : payloadIn (take (r .length) (translated host b table out .buffer)) ≡ x .load
+    load-is : payloadIn (take (r .length) (translating host b table out .buffer)) ≡ x .load
     load-is = rw is (sent-payload (x .packet) (x .load) out (r .length) written (due-typed (w .end)))
 
-    holds : Holds t (w .end) (payloadIn (take (r .length) (translated host b table out .buffer)))
+    holds : Holds t (w .end) (payloadIn (take (r .length) (translating host b table out .buffer)))
     holds = rw load-is (due-holds (w .end) (walk-sound table (t .address)))
 
     reads-back : ReadsBack host b table out p t r
@@ -202,8 +202,8 @@ module _ (host : ℕ) (b table out : List ℕ) where
       (refuses-written (x .reply) (length (w .visits)) (bytesOf (x .packet) (x .load)) (checkRoom n (length out))
       (among-case hostNumbers (ltb (length out) n) (refusal 17) (ok n) (λ short. among-refusal hostNumbers 17 refl) (λ fits. among-ok hostNumbers n)))
 
-  refuses-body : (p : Packet) → reading b ≡ ok p → (y : Body) → p .body ≡ y → Refuses out (bodyTranslated host table out (p .head) y)
-  unfolding bodyTranslated
+  refuses-body : (p : Packet) → reading b ≡ ok p → (y : Body) → p .body ≡ y → Refuses out (translatingBody host table out (p .head) y)
+  unfolding translatingBody
   refuses-body p read (Tr t) request = refuses-due p t read request (walked table (t .address))
   refuses-body p read (Mem m) e = refuses-with 2 refl
   refuses-body p read (Cpl c) e = refuses-with 2 refl
@@ -212,13 +212,13 @@ module _ (host : ℕ) (b table out : List ℕ) where
   refuses-body p read (Prq q) e = refuses-with 2 refl
   refuses-body p read (Prs s) e = refuses-with 2 refl
 
-  refuses-read : (s : Result Packet) → reading b ≡ s → Refuses out (readingTranslated host table out s)
+  refuses-read : (s : Result Packet) → reading b ≡ s → Refuses out (translatingIf host table out s)
   refuses-read (ok p) e = refuses-body p e (p .body) refl
   refuses-read (refusal n) e =
       refuses-with n (among-monotone (1 ∷ 2 ∷ 3 ∷ 4 ∷ []) hostNumbers (reading b) refl (reading-numbers b) .one n e)
 
-  refuses : Refuses out (translated host b table out)
-  unfolding translated
+  refuses : Refuses out (translating host b table out)
+  unfolding translating
   refuses = refuses-read (reading b) refl
 
 pub host-replies : HostReplies

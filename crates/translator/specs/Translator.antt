@@ -25,7 +25,7 @@ use Rattle.walk.specs.declared.Mapping.{Mapping}
 use Rattle.walk.specs.declared.Rights.{Rights}
 use Rattle.walk.specs.Walk.{isNone, Walked, walked}
 use Rattle.translator.specs.declared.Reply.{Reply}
-use Rattle.translator.specs.declared.Reply.the-variants.{Translated, Aborted}
+use Rattle.translator.specs.declared.Reply.the-variants.{Successful, CompleterAbort}
 use Rattle.translator.specs.declared.Report.{Report}
 use Rattle.translator.specs.declared.Translating.{Translating}
 use Rattle.translator.specs.declared.Translating.the-variants.{Replied, Refused}
@@ -48,7 +48,7 @@ nullTranslation = translationWith 0 12 (record { r = false; w = false })
 abbrev pub translationTo : Bool → Mapping → Translation
 translationTo nowrite m =
     cond (isNone (finalRights nowrite (m .rights))) nullTranslation
-    (translationWith (m .frame) (m .exponent) (finalRights nowrite (m .rights)))
+    (translationWith (m .base) (m .exponent) (finalRights nowrite (m .rights)))
 
 -- ---- the reply: a completion from the host, in the Traffic Class of the request, for its sender and tag
 
@@ -68,12 +68,12 @@ pub record Prepared : Type 0 where
 -- one translation of two DWORDs, which end on a boundary of 128 bytes
 abbrev pub translationReply : ℕ → Head → Tag → Translation → Prepared
 translationReply host h t x =
-    record { reply = Translated; packet = replyPacket host h t (Data 2) 8 120; load = eightBytes (wordOf x) }
+    record { reply = Successful; packet = replyPacket host h t (Data 2) 8 120; load = eightBytes (wordOf x) }
 
 -- status 100, and as Byte Count the bytes that were requested
 abbrev pub statusReply : ℕ → Head → Tag → ℕ → Prepared
 statusReply host h t dwords =
-    record { reply = Aborted; packet = replyPacket host h t (Status 4) (4 * dwords) 0; load = [] }
+    record { reply = CompleterAbort; packet = replyPacket host h t (Status 4) (4 * dwords) 0; load = [] }
 
 abbrev pub replyTo : ℕ → Head → TranslationRequest → End → Prepared
 replyTo host h t (Mapped m) = translationReply host h (t .tag) (translationTo (t .nowrite) m)
@@ -110,22 +110,22 @@ abbrev pub answering : ℕ → Head → TranslationRequest → Walked → List �
 answering host h t w out = replyingAs (replyTo host h t (w .end)) (length (w .visits)) out
 
 -- every other kind is refused with 2
-unfoldable pub bodyTranslated : ℕ → List ℕ → List ℕ → Head → Body → Observation
-bodyTranslated host table out h (Tr t) = answering host h t (walked table (t .address)) out
-bodyTranslated host table out h (Mem m) = refusedWith 2 out
-bodyTranslated host table out h (Cpl c) = refusedWith 2 out
-bodyTranslated host table out h (Inv i) = refusedWith 2 out
-bodyTranslated host table out h (Ic i) = refusedWith 2 out
-bodyTranslated host table out h (Prq q) = refusedWith 2 out
-bodyTranslated host table out h (Prs s) = refusedWith 2 out
+unfoldable pub translatingBody : ℕ → List ℕ → List ℕ → Head → Body → Observation
+translatingBody host table out h (Tr t) = answering host h t (walked table (t .address)) out
+translatingBody host table out h (Mem m) = refusedWith 2 out
+translatingBody host table out h (Cpl c) = refusedWith 2 out
+translatingBody host table out h (Inv i) = refusedWith 2 out
+translatingBody host table out h (Ic i) = refusedWith 2 out
+translatingBody host table out h (Prq q) = refusedWith 2 out
+translatingBody host table out h (Prs s) = refusedWith 2 out
 
 -- the refusals of reading come first
-abbrev pub readingTranslated : ℕ → List ℕ → List ℕ → Result Packet → Observation
-readingTranslated host table out (ok p) = bodyTranslated host table out (p .head) (p .body)
-readingTranslated host table out (refusal n) = refusedWith n out
+abbrev pub translatingIf : ℕ → List ℕ → List ℕ → Result Packet → Observation
+translatingIf host table out (ok p) = translatingBody host table out (p .head) (p .body)
+translatingIf host table out (refusal n) = refusedWith n out
 
-unfoldable pub translated : ℕ → List ℕ → List ℕ → List ℕ → Observation
-translated host b table out = readingTranslated host table out (reading b)
+unfoldable pub translating : ℕ → List ℕ → List ℕ → List ℕ → Observation
+translating host b table out = translatingIf host table out (reading b)
 
 -- the result of an answer of the code
 abbrev pub translateResult : Translating → Result Report

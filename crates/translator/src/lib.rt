@@ -23,12 +23,12 @@ ghost use Prim.Native.Nat.{_≤_};
 ghost use Rattle.packet.specs.Frames.{eightBytes};
 ghost use Rattle.packet.specs.Kinds.{allowedBody};
 ghost use Rattle.walk.specs.Walk.{isNone};
-ghost use Rattle.translator.specs.Translator.{finalRights, translationWith, translationTo, nullTranslation, replyPacket, replying, replyingAs, translationReply, statusReply, replyTo, bodyTranslated, translated, observation};
+ghost use Rattle.translator.specs.Translator.{finalRights, translationWith, translationTo, nullTranslation, replyPacket, replying, replyingAs, translationReply, statusReply, replyTo, translatingBody, translating, observation};
 
-// What a reply is: a translation, or status 100.
+// The status of a reply: 000, with a translation; or 100.
 pub enum Reply {
-    Translated,
-    Aborted,
+    Successful,
+    CompleterAbort,
 }
 
 // What was sent, its length in bytes, and how many table entries the walk read.
@@ -93,7 +93,7 @@ fn translation_to(nowrite: bool, m: Mapping) -> Translation
     if is_none(left) {
         null_translation()
     } else {
-        translation_with(m.frame, m.exponent, left)
+        translation_with(m.base, m.exponent, left)
     }
 }
 
@@ -163,7 +163,7 @@ fn send_translation(
 {
     let payload = eight_bytes(tlp::word_of(x));
     let p = reply_packet(host, h, tag, Outcome::Data(2), 8, 120);
-    send(Reply::Translated, p, &payload, visits, out)
+    send(Reply::Successful, p, &payload, visits, out)
 }
 
 fn send_status(
@@ -179,7 +179,7 @@ fn send_status(
 {
     let none: [u8; 0] = [0; 0];
     let p = reply_packet(host, h, tag, Outcome::Status(4), 4 * dwords, 0);
-    send(Reply::Aborted, p, &none, visits, out)
+    send(Reply::CompleterAbort, p, &none, visits, out)
 }
 
 fn answer(host: u16, h: Head, t: TranslationRequest, w: Walk, out: &mut [u8]) -> Translating
@@ -204,7 +204,7 @@ fn answer(host: u16, h: Head, t: TranslationRequest, w: Walk, out: &mut [u8]) ->
 
 fn translate_body(host: u16, h: Head, body: Body, table: &[u64], out: &mut [u8]) -> Translating
     requires { ⌜ allowedBody (h .tc) body ≡ true ⌝ }
-    ensures { λ r. ⌜ observation r (now (out .exit)) ≡ bodyTranslated host (now (table .entry)) (now (out .entry)) h body ⌝ }
+    ensures { λ r. ⌜ observation r (now (out .exit)) ≡ translatingBody host (now (table .entry)) (now (out .entry)) h body ⌝ }
 {
     match body {
         Body::Tr(t) => answer(host, h, t, walk_tables(table, t.address), out),
@@ -219,7 +219,7 @@ fn translate_body(host: u16, h: Head, body: Body, table: &[u64], out: &mut [u8])
 
 // Replies to a Translation Request that the host received. A refused call leaves `out` unchanged.
 pub fn translate(host: u16, b: &[u8], table: &[u64], out: &mut [u8]) -> Translating
-    ensures { λ r. ⌜ observation r (now (out .exit)) ≡ translated host (now (b .entry)) (now (table .entry)) (now (out .entry)) ⌝ }
+    ensures { λ r. ⌜ observation r (now (out .exit)) ≡ translating host (now (b .entry)) (now (table .entry)) (now (out .entry)) ⌝ }
 {
     match tlp::read_packet(b) {
         Reading::Read(p) => {

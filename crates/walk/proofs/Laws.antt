@@ -82,7 +82,7 @@ pageOr n next x g = cond (isLarge n x) (endsIn (Mapped (pageOf n x g))) (next x 
 
 -- a page of 4096 bytes to 512 GiB, aligned to its size, and in the address space
 abbrev pub SoundEnd : End → Type 0
-SoundEnd (Mapped m) = (12 ≤ m .exponent) × (m .exponent ≤ 64) × (regionOf (m .frame) (m .exponent) .first ≡ m .frame) × (m .frame < 2 ^ 64)
+SoundEnd (Mapped m) = (12 ≤ m .exponent) × (m .exponent ≤ 64) × (regionOf (m .base) (m .exponent) .first ≡ m .base) × (m .base < 2 ^ 64)
 SoundEnd Unmapped = Unit {0}
 SoundEnd NotLent = Unit {0}
 

@@ -18,7 +18,7 @@ use Rattle.walk.specs.declared.Walk.{Walk}
 abbrev pub rightsIn : ℕ → Rights
 rightsIn x = record { r = eqb (x % 2) 1; w = bit x 1 }
 
--- bits 51:12 are the number of the next table, or of a frame of 4096 bytes
+-- bits 51:12 are the number of the next table, or of a page of 4096 bytes
 abbrev pub numberIn : ℕ → ℕ
 numberIn x = x / 4096 % 2 ^ 40
 
@@ -83,10 +83,10 @@ entryRead table k i granted next =
     (next (tableEntry table k i) (bothGrant granted (rightsIn (tableEntry table k i))))))
     (endsIn NotLent)
 
--- the page that an entry maps; bits of the frame's address below the page's size are ignored
+-- the page that an entry maps; bits of its address below its size are ignored
 abbrev pub pageOf : ℕ → ℕ → Rights → Mapping
 pageOf n x rights =
-    record { frame = regionOf (numberIn x * 4096) (spanExponent n) .first; exponent = spanExponent n; rights = rights }
+    record { base = regionOf (numberIn x * 4096) (spanExponent n) .first; exponent = spanExponent n; rights = rights }
 
 -- the walk from table k on, at a level with n levels below it; `granted` is what the entries above it grant
 unfoldable pub walkFrom : ℕ → List ℕ → ℕ → ℕ → Rights → Walked

@@ -13,7 +13,7 @@ pub struct Rights {
 
 // A page of 2^exponent bytes, and what every entry on the way to it grants.
 pub struct Mapping {
-    pub frame: u64,
+    pub base: u64,
     pub exponent: u32,
     pub rights: Rights,
 }
@@ -42,7 +42,7 @@ fn rights_in(entry: u64) -> Rights
     }
 }
 
-// Bits 51:12: the number of the next table, or of a frame.
+// Bits 51:12: the number of the next table, or of a page of 4096 bytes.
 fn number_in(entry: u64) -> u64
     ensures { λ r. ⌜ (r ≡ numberIn entry) × (r < 2 ^ 40) ⌝ }
 {
@@ -108,9 +108,9 @@ fn page_of(below: u32, entry: u64, rights: Rights) -> Mapping
     ensures { λ r. ⌜ r ≡ pageOf below entry rights ⌝ }
 {
     let exponent = span_exponent(below);
-    let frame = region(number_in(entry) * 4096, exponent).first;
+    let base = region(number_in(entry) * 4096, exponent).first;
     Mapping {
-        frame,
+        base,
         exponent,
         rights,
     }

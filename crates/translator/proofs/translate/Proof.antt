@@ -1,6 +1,6 @@
 use mathlib.Core.Path.{sym, _∙_, ap}
 use Rattle.tlp.proofs.RoundTrips.{taken}
-use Rattle.translator.specs.Translator.{translated}
+use Rattle.translator.specs.Translator.{translating}
 use borrow.Author.Needs.{needs}
 use Rattle.translator.proofs.translate.Statement.{statement}
 use Rattle.translator.proofs.translate.Tie as tie
@@ -23,13 +23,13 @@ same-length : tie.Need-same-length
 same-length c = search needs
 
 returns : tie.Need-returns
-unfolding translated
+unfolding translating
 returns c = let k = c .before .before .before .before .before .before in
     let e = rw (k .p .given .1) at (k .before .before .read-packet .ensures) in
     rw (← e) (c .before .before .translate-body .ensures)
 
 returns-2 : tie.Need-returns-2
-unfolding translated
+unfolding translating
 returns-2 c = let k = c .before in
     let e = rw (k .r .given .1) at (k .before .before .read-packet .ensures) in
     rw (← e)

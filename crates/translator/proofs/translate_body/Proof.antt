@@ -1,4 +1,4 @@
-use Rattle.translator.specs.Translator.{bodyTranslated}
+use Rattle.translator.specs.Translator.{translatingBody}
 use Rattle.translator.proofs.Laws.{few-dwords}
 use borrow.Author.Needs.{needs}
 use Rattle.translator.proofs.translate_body.Statement.{statement}
@@ -35,31 +35,31 @@ same-length : tie.Need-same-length
 same-length c = search needs
 
 returns : tie.Need-returns
-unfolding bodyTranslated
+unfolding translatingBody
 returns c = let k = c .before .before in rw (k .before .before .before .before .body .given .1) (rw (k .before .before .walk-tables .ensures) at (k .answer .ensures))
 
 returns-2 : tie.Need-returns-2
-unfolding bodyTranslated
+unfolding translatingBody
 returns-2 c = rw (c .enum-told .given .1)
 
 returns-3 : tie.Need-returns-3
-unfolding bodyTranslated
+unfolding translatingBody
 returns-3 c = rw (c .enum-told2 .given .1)
 
 returns-4 : tie.Need-returns-4
-unfolding bodyTranslated
+unfolding translatingBody
 returns-4 c = rw (c .enum-told3 .given .1)
 
 returns-5 : tie.Need-returns-5
-unfolding bodyTranslated
+unfolding translatingBody
 returns-5 c = rw (c .enum-told4 .given .1)
 
 returns-6 : tie.Need-returns-6
-unfolding bodyTranslated
+unfolding translatingBody
 returns-6 c = rw (c .enum-told5 .given .1)
 
 returns-7 : tie.Need-returns-7
-unfolding bodyTranslated
+unfolding translatingBody
 returns-7 c = rw (c .enum-told6 .given .1)
 
 pub translate-body-spec : {M : Type 1} → statement M

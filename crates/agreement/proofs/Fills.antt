@@ -26,10 +26,9 @@ use Rattle.tags.specs.Tags.{translationRange}
 use Rattle.translations.specs.Fits.{commonSize, exponentOr0, receivedCount}
 use Rattle.translations.specs.Fills.{allowsAccess, entryOf, unitUpdated, regionIndex, updatedIfCovered, updatedAt, applied}
 use Rattle.walk.specs.declared.Mapping.{Mapping}
-use Rattle.walk.specs.declared.Rights.{Rights}
 use Rattle.walk.specs.Walk.{isNone}
 use Rattle.translator.specs.Translator.{translationWith, nullTranslation}
-use Rattle.agreement.specs.Agreement.{requestUnit, requestUnits, liesInPage, pageEntry, unitFilled, unitsFilled}
+use Rattle.agreement.specs.Agreement.{requestUnit, requestUnits, liesInPage, rightsLeft, pageEntry, unitFilled, unitsFilled}
 use Rattle.agreement.proofs.Fits.{newRequest, range-first, range-from, size-is}
 
 -- an address moved to an aligned base keeps its offset
@@ -51,9 +50,9 @@ index-zero x y h = byCases (eqb x y) (λ e. rw e (lt-ltb (x - y) 1 (omega (arith
         pick (no l) n = omega arith
 
 -- a reply of one translation x of 2 ^ e bytes, for n units from `first` on
-module _ (asked n : ℕ) (load : List ℕ) (x : Translation) (e : ℕ)
+module _ (asked n : ℕ) (payload : List ℕ) (x : Translation) (e : ℕ)
     (some : 1 ≤ n) (few : n ≤ 16)
-    (fits : asked / 4096 * 4096 < 2 ^ 64) (eight : length load ≡ 8) (given : translationAt load 0 ≡ x) (sized : x .size ≡ Exponent e) (low : 12 ≤ e) where
+    (fits : asked / 4096 * 4096 < 2 ^ 64) (eight : length payload ≡ 8) (given : translationAt payload 0 ≡ x) (sized : x .size ≡ Exponent e) (low : 12 ≤ e) where
   abbrev q : PendingTranslation
   q = newRequest asked (n - 1)
 
@@ -70,7 +69,7 @@ module _ (asked n : ℕ) (load : List ℕ) (x : Translation) (e : ℕ)
       (cond (eqb ((first + j * 4096) / 2 ^ e) (first / 2 ^ e)) (unitUpdated x e (first + j * 4096) c) c)
 
   covered : (unit : ℕ) (c : Cache) → first ≤ unit
-      → updatedIfCovered first e 0 unit load c ≡ cond (eqb (unit / 2 ^ e) (first / 2 ^ e)) (unitUpdated x e unit c) c
+      → updatedIfCovered first e 0 unit payload c ≡ cond (eqb (unit / 2 ^ e) (first / 2 ^ e)) (unitUpdated x e unit c) c
   unfolding updatedIfCovered
   covered unit c h =
       let r = unit / 2 ^ e - first / 2 ^ e in
@@ -81,10 +80,10 @@ module _ (asked n : ℕ) (load : List ℕ) (x : Translation) (e : ℕ)
       (λ s. let z : r ≡ 0 = omega (arith, eqb-true (unit / 2 ^ e) (first / 2 ^ e) s) in rw (s, z, given))
       (λ s. rw s))
 
-  pub applied-is : (c : Cache) → applied q load c ≡ iterate updatedUnit n c
+  pub applied-is : (c : Cache) → applied q payload c ≡ iterate updatedUnit n c
   unfolding applied updatedAt receivedCount
   applied-is c =
-      rw (units, size-is asked (n - 1) load e fits eight (ap (λ (y : Translation). y .size) given ∙ sized) low, range-first asked (n - 1))
+      rw (units, size-is asked (n - 1) payload e fits eight (ap (λ (y : Translation). y .size) given ∙ sized) low, range-first asked (n - 1))
       (iterate-same _ updatedUnit n c (λ j d l. ap (λ (y : Cache). cond (ltb (translationRange q .last) (first + j * 4096)) d y) (covered (first + j * 4096) d (omega arith))))
 
   range-holds : first < 2 ^ 48 → (j : ℕ) → j < n → first + j * 4096 ≤ translationRange q .last
@@ -93,12 +92,12 @@ module _ (asked n : ℕ) (load : List ℕ) (x : Translation) (e : ℕ)
       rw (units, min-eq-left {n = first + (n * 4096 - 1)} {m = 2 ^ 64 - 1} (omega arith)) (omega arith)
 
 -- the null translation: the entry of the first unit is deleted
-module _ (asked n : ℕ) (load : List ℕ) (some : 1 ≤ n) (few : n ≤ 16) (fits : asked / 4096 * 4096 < 2 ^ 64) (eight : length load ≡ 8) (given : translationAt load 0 ≡ nullTranslation) where
+module _ (asked n : ℕ) (payload : List ℕ) (some : 1 ≤ n) (few : n ≤ 16) (fits : asked / 4096 * 4096 < 2 ^ 64) (eight : length payload ≡ 8) (given : translationAt payload 0 ≡ nullTranslation) where
   abbrev at : ℕ
   at = asked / 4096 * 4096
 
   abbrev nullStep : ℕ → Cache → Cache
-  nullStep = updatedUnit asked n load nullTranslation 12 some few fits eight given refl (omega arith)
+  nullStep = updatedUnit asked n payload nullTranslation 12 some few fits eight given refl (omega arith)
 
   step-first : (c : Cache) → nullStep 0 c ≡ unitDropped at c
   unfolding unitUpdated
@@ -120,25 +119,28 @@ module _ (asked n : ℕ) (load : List ℕ) (some : 1 ≤ n) (few : n ≤ 16) (fi
   steps zero c = step-first c
   steps (suc k) c = step-later k (iterate nullStep (suc k) c) ∙ steps k c
 
-  pub null-applied : (c : Cache) → applied (newRequest asked (n - 1)) load c ≡ unitDropped at c
+  pub null-applied : (c : Cache) → applied (newRequest asked (n - 1)) payload c ≡ unitDropped at c
   null-applied c =
       let one : suc (n - 1) ≡ n = omega arith in
-      applied-is asked n load nullTranslation 12 some few fits eight given refl (omega arith) c
+      applied-is asked n payload nullTranslation 12 some few fits eight given refl (omega arith) c
       ∙ ap (λ (k : ℕ). iterate nullStep k c) (sym one)
       ∙ steps (n - 1) c
 
 -- a page with a right: each unit in it is filled
-module _ (t : TranslationRequest) (m : Mapping) (g : Rights) (asked : ℕ) (load : List ℕ)
+module _ (t : TranslationRequest) (m : Mapping) (asked : ℕ) (payload : List ℕ)
     (some : 1 ≤ requestUnits t) (few : requestUnits t ≤ 16) (page : asked / 4096 * 4096 ≡ t .address)
-    (small : t .address < 2 ^ 48) (eight : length load ≡ 8)
-    (given : translationAt load 0 ≡ translationWith (m .base) (m .exponent) g) (low : 12 ≤ m .exponent) (up : m .exponent ≤ 64)
-    (aligned : regionOf (m .base) (m .exponent) .first ≡ m .base) (right : isNone g ≡ false) where
+    (small : t .address < 2 ^ 48) (eight : length payload ≡ 8)
+    (given : translationAt payload 0 ≡ translationWith (m .base) (m .exponent) (rightsLeft t m)) (low : 12 ≤ m .exponent) (up : m .exponent ≤ 64)
+    (aligned : regionOf (m .base) (m .exponent) .first ≡ m .base) (right : isNone (rightsLeft t m) ≡ false) where
+  abbrev pageTranslation : Translation
+  pageTranslation = translationWith (m .base) (m .exponent) (rightsLeft t m)
+
   fits : asked / 4096 * 4096 < 2 ^ 64
   fits = rw page (omega arith)
 
-  entry-is : (unit : ℕ) → entryOf (translationWith (m .base) (m .exponent) g) (m .exponent) unit ≡ pageEntry m g unit
+  entry-is : (unit : ℕ) → entryOf pageTranslation (m .exponent) unit ≡ pageEntry t m unit
   entry-is unit =
-      ap (λ (to : ℕ). record { used = true; r = g .r; w = g .w; n = false; u = false; unit = unit; to = to }) (moved (m .base) unit (m .exponent) up aligned)
+      ap (λ (to : ℕ). record { used = true; r = rightsLeft t m .r; w = rightsLeft t m .w; n = false; u = false; unit = unit; to = to }) (moved (m .base) unit (m .exponent) up aligned)
 
   grants : (r w : Bool) → not (r || w) ≡ false → (r || w) ≡ true
   grants true w h = refl
@@ -146,14 +148,14 @@ module _ (t : TranslationRequest) (m : Mapping) (g : Rights) (asked : ℕ) (load
   grants false false h = impossible cc
 
   abbrev pageStep : ℕ → Cache → Cache
-  pageStep = updatedUnit asked (requestUnits t) load (translationWith (m .base) (m .exponent) g) (m .exponent) some few fits eight given refl low
+  pageStep = updatedUnit asked (requestUnits t) payload pageTranslation (m .exponent) some few fits eight given refl low
 
-  step-is : (j : ℕ) (c : Cache) → j < requestUnits t → pageStep j c ≡ unitFilled t m g j c
+  step-is : (j : ℕ) (c : Cache) → j < requestUnits t → pageStep j c ≡ unitFilled t m j c
   unfolding unitUpdated
   step-is j c l =
-      rw (le-ltb _ _ (range-holds asked (requestUnits t) load (translationWith (m .base) (m .exponent) g) (m .exponent) some few fits eight given refl low (rw page small) j l), page, grants (g .r) (g .w) right, entry-is (t .address + j * 4096))
+      rw (le-ltb _ _ (range-holds asked (requestUnits t) payload pageTranslation (m .exponent) some few fits eight given refl low (rw page small) j l), page, grants (rightsLeft t m .r) (rightsLeft t m .w) right, entry-is (t .address + j * 4096))
 
-  pub page-applied : (c : Cache) → applied (newRequest asked (requestUnits t - 1)) load c ≡ unitsFilled t m g (requestUnits t) c
+  pub page-applied : (c : Cache) → applied (newRequest asked (requestUnits t - 1)) payload c ≡ unitsFilled t m (requestUnits t) c
   page-applied c =
-      applied-is asked (requestUnits t) load (translationWith (m .base) (m .exponent) g) (m .exponent) some few fits eight given refl low c
-      ∙ iterate-same pageStep (unitFilled t m g) (requestUnits t) c (λ j d l. step-is j d l)
+      applied-is asked (requestUnits t) payload pageTranslation (m .exponent) some few fits eight given refl low c
+      ∙ iterate-same pageStep (unitFilled t m) (requestUnits t) c (λ j d l. step-is j d l)

@@ -37,11 +37,11 @@ module _ (asked further : ℕ) where
   unfolding translationRange unitsFrom regionOf
   range-from h = rangeFrom-ends (asked / 4096 * 4096) (unitCount further * 4096 - 1) h .0
 
-module _ (asked further : ℕ) (load : List ℕ) (e : ℕ) (fits : asked / 4096 * 4096 < 2 ^ 64) (eight : length load ≡ 8) (sized : translationAt load 0 .size ≡ Exponent e) (low : 12 ≤ e) where
+module _ (asked further : ℕ) (payload : List ℕ) (e : ℕ) (fits : asked / 4096 * 4096 < 2 ^ 64) (eight : length payload ≡ 8) (sized : translationAt payload 0 .size ≡ Exponent e) (low : 12 ≤ e) where
   abbrev q : PendingTranslation
   q = newRequest asked further
 
-  pub size-is : commonSize q load ≡ Exponent e
+  pub size-is : commonSize q payload ≡ Exponent e
   unfolding commonSize
   size-is = sized
 
@@ -51,19 +51,19 @@ module _ (asked further : ℕ) (load : List ℕ) (e : ℕ) (fits : asked / 4096 
       let first = asked / 4096 * 4096 in
       rw (range-first asked further, add-zero (first / 2 ^ e)) (le-leb _ _ (le-trans (div-mul-le-self first (2 ^ e)) (range-from asked further fits)))
 
-  all-fit : allFit (translationRange q) e 0 load ≡ true
+  all-fit : allFit (translationRange q) e 0 payload ≡ true
   unfolding allFit allBelow translationFits
   all-fit = rw (eight, sized, eq-eqb e e refl) begins
 
-  fit : translationsFit q load ≡ true
+  fit : translationsFit q payload ≡ true
   unfolding sizeFits receivedCount
   fit = rw (size-is, le-leb 12 e low) all-fit
 
-  part : (rcb : Rcb) → partOf q rcb 8 120 (length load) ≡ Last
+  part : (rcb : Rcb) → partOf q rcb 8 120 (length payload) ≡ Last
   unfolding partOf firstPart onBoundary
   part B64 = rw (eight, le-leb 8 (8 * unitCount further) (omega arith))
   part B128 = rw (eight, le-leb 8 (8 * unitCount further) (omega arith))
 
-  pub only-packet : (rcb : Rcb) → classified q rcb 8 120 load ≡ Last
+  pub only-packet : (rcb : Rcb) → classified q rcb 8 120 payload ≡ Last
   unfolding classified
   only-packet rcb = rw (fit, part rcb)

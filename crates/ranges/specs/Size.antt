@@ -47,12 +47,12 @@ translationOf x =
 abbrev pub sizeExponent : ℕ → ℕ
 sizeExponent e = max 12 (min e 64)
 
--- The address that encodes the aligned region of 2 ^ e bytes which holds a: the region's first byte, with bit e - 1 zero
--- and the bits below it ones, down to bit 12. 4096 bytes leave no such bits.
+-- The address that encodes the aligned region of 2 ^ e bytes which holds a: in the offset, bit e - 1 is zero and the bits
+-- below it are ones, down to bit 12. For 4096 bytes the subtraction is cut at 0.
 unfoldable pub coded : ℕ → ℕ → ℕ
 coded a e = regionOf a (sizeExponent e) .first + (2 ^ (sizeExponent e - 1) - 4096)
 
--- the address with S in bit 11, which is clear for 4096 bytes; all ones if there is no size
+-- the address with S in bit 11, which is clear for 4096 bytes; bits 63:11 are all ones if there is no size
 abbrev pub codedSize : ℕ → Size → ℕ
 codedSize a (Exponent e) = coded a e + cond (ltb 12 e) 2048 0
 codedSize a NoSize = 2 ^ 64 - 2048

@@ -33,7 +33,7 @@ use Rattle.packet.proofs.Among.{Among, among-ok, among-refusal, among-case, amo
 use Rattle.tlp.specs.Fields.{TypedBody, Typed}
 use Rattle.tlp.specs.Translations.{translationAt}
 use Rattle.tlp.proofs.RoundTrips.{taken}
-use Rattle.tlp.proofs.Laws.{sent-reads, sent-payload, sent-rest, read-typed}
+use Rattle.tlp.proofs.Laws.{sent-reads, sent-payload, sent-rest}
 use Rattle.tlp.proofs.Qwords.{qword-of-bytes}
 use Rattle.walk.specs.declared.End.{End}
 use Rattle.walk.specs.declared.End.the-variants.{Mapped, Unmapped, NotLent}
@@ -98,6 +98,10 @@ replied-ok : (what : Reply) (visits : ℕ) (w : Result ℕ) (r : Report) → rep
 replied-ok what visits (ok n) r e = ap (λ (x : Report). ok (x .length)) (ok-injective e)
 replied-ok what visits (refusal n) r e = impossible cc
 
+replied-count : (what : Reply) (count : ℕ) (w : Result ℕ) (r : Report) → repliedIf what count w ≡ ok r → r .count ≡ count
+replied-count what count (ok n) r e = ap (λ (x : Report). x .count) (sym (ok-injective e))
+replied-count what count (refusal n) r e = impossible cc
+
 module _ (host : ℕ) (b : List ℕ) (p : Packet) (t : TranslationRequest) (read : reading b ≡ ok p) (request : p .body ≡ Tr t) where
   -- what reading gives
   tc-lt : p .head .tc < 8
@@ -108,21 +112,21 @@ module _ (host : ℕ) (b : List ℕ) (p : Packet) (t : TranslationRequest) (read
   request-dwords = few-dwords (p .head .tc) t (rw request at (taken b p read .allows))
 
   due-writes : (e : End) (room : ℕ)
-      → writing (replyTo host (p .head) t e .packet) (length (replyTo host (p .head) t e .load)) room ≡ checkRoom (12 + length (replyTo host (p .head) t e .load)) room
+      → writing (replyTo host (p .head) t e .packet) (length (replyTo host (p .head) t e .payload)) room ≡ checkRoom (12 + length (replyTo host (p .head) t e .payload)) room
   due-writes (Mapped m) room = writes host (p .head) (t .tag) 8 120 room tc-lt (lit≤ tt) (lit≤ tt) (Data 2) refl refl
   due-writes Unmapped room = writes host (p .head) (t .tag) 8 120 room tc-lt (lit≤ tt) (lit≤ tt) (Data 2) refl refl
   due-writes NotLent room =
       writes host (p .head) (t .tag) (4 * t .dwords) 0 room tc-lt (omega (arith, request-dwords .1)) (lit≤ tt) (Status 4) refl refl
 
-  answered : (table out : List ℕ) → translating host b table out ≡ answering host (p .head) t (walked table (t .address)) out
+  answered : (entries out : List ℕ) → translating host b entries out ≡ answering host (p .head) t (walked entries (t .address)) out
   unfolding translating translatingBody
-  answered table out = rw (read, request)
+  answered entries out = rw (read, request)
 
-  answers : (table out : List ℕ) → translating host b table out .answer ≡ repliedIf (dueReply host table p t .reply) (length (walked table (t .address) .visits)) (checkRoom (12 + length (dueReply host table p t .load)) (length out))
-  answers table out =
-      rw (answered table out) (ap (repliedIf (dueReply host table p t .reply) (length (walked table (t .address) .visits))) (due-writes (walked table (t .address) .end) (length out)))
+  answers : (entries out : List ℕ) → translating host b entries out .answer ≡ repliedIf (dueReply host entries p t .reply) (length (walked entries (t .address) .visits)) (checkRoom (12 + length (dueReply host entries p t .payload)) (length out))
+  answers entries out =
+      rw (answered entries out) (ap (repliedIf (dueReply host entries p t .reply) (length (walked entries (t .address) .visits))) (due-writes (walked entries (t .address) .end) (length out)))
 
-  same-tables : (s u out : List ℕ) → length s ≡ length u → SameAt (walked s (t .address) .visits) s u
+  same-tables : (s u out : List ℕ) → length s ≡ length u → SameAt 3 (walked s (t .address) .visits) s u
       → translating host b s out ≡ translating host b u out
   same-tables s u out long same =
       answered s out
@@ -131,50 +135,55 @@ module _ (host : ℕ) (b : List ℕ) (p : Packet) (t : TranslationRequest) (read
 
 module _ (host : ℕ) (b : List ℕ) (p : Packet) (t : TranslationRequest) (v : ValidRequest host b p t) where
   pub typed-request : TypedBody (Tr t)
-  typed-request = rw (v .request) at (read-typed b p (v .bytes) (v .read) .body)
+  typed-request = rw (v .request) at (v .typed .body)
 
   typed-reply : (o : Outcome) (count lower : ℕ) → Typed (replyPacket host (p .head) (t .tag) o count lower)
   unfolding TypedBody
   typed-reply o count lower =
-      record { sender = v .id; body = (read-typed b p (v .bytes) (v .read) .sender, typed-request .0) }
+      record { sender = v .id; body = (v .typed .sender, typed-request .0) }
 
   due-typed : (e : End) → Typed (replyTo host (p .head) t e .packet)
   due-typed (Mapped m) = typed-reply (Data 2) 8 120
   due-typed Unmapped = typed-reply (Data 2) 8 120
   due-typed NotLent = typed-reply (Status 4) (4 * t .dwords) 0
 
-  due-holds : (e : End) → SoundEnd e → Holds t e (replyTo host (p .head) t e .load)
+  due-holds : (e : End) → SoundEnd e → Holds t e (replyTo host (p .head) t e .payload)
   due-holds (Mapped m) s = decodes-page (t .nowrite) m s
   due-holds Unmapped s = decodes-null
   due-holds NotLent s = refl
 
-  module _ (table out : List ℕ) (r : Report) (e : translating host b table out .answer ≡ ok r) where
+  module _ (entries out : List ℕ) (r : Report) (e : translating host b entries out .answer ≡ ok r) where
     abbrev x : Prepared
-    x = dueReply host table p t
+    x = dueReply host entries p t
 
     abbrev w : Walked
-    w = walked table (t .address)
+    w = walked entries (t .address)
 
-    is : translating host b table out ≡ answering host (p .head) t w out
-    is = answered host b p t (v .read) (v .request) table out
+    is : translating host b entries out ≡ answering host (p .head) t w out
+    is = answered host b p t (v .read) (v .request) entries out
 
-    written : writing (x .packet) (length (x .load)) (length out) ≡ ok (r .length)
+    written : writing (x .packet) (length (x .payload)) (length out) ≡ ok (r .length)
     written = replied-ok (x .reply) (length (w .visits)) _ r (rw is at e)
 
-    load-is : payloadIn (take (r .length) (translating host b table out .buffer)) ≡ x .load
-    load-is = rw is (sent-payload (x .packet) (x .load) out (r .length) written (due-typed (w .end)))
+    count-is : r .count ≡ length (w .visits)
+    count-is =
+        replied-count (x .reply) (length (w .visits)) (writing (x .packet) (length (x .payload)) (length out)) r (rw is at e)
 
-    holds : Holds t (w .end) (payloadIn (take (r .length) (translating host b table out .buffer)))
-    holds = rw load-is (due-holds (w .end) (walk-sound table (t .address)))
+    payload-is : payloadIn (take (r .length) (translating host b entries out .buffer)) ≡ x .payload
+    payload-is = rw is (sent-payload (x .packet) (x .payload) out (r .length) written (due-typed (w .end)))
 
-    reads-back : ReadsBack host b table out p t r
+    holds : Holds t (w .end) (payloadIn (take (r .length) (translating host b entries out .buffer)))
+    holds = rw payload-is (due-holds (w .end) (walk-sound entries (t .address)))
+
+    reads-back : ReadsBack host b entries out p t r
     reads-back =
         record {
-          packet = rw is (sent-reads (x .packet) (x .load) out (r .length) written (due-typed (w .end)));
-          load = load-is;
+          packet = rw is (sent-reads (x .packet) (x .payload) out (r .length) written (due-typed (w .end)));
+          payload = payload-is;
           holds = holds;
           noWrite = λ n. no-write-held t (w .end) _ holds n;
-          rest = rw is (sent-rest (x .packet) (x .load) out (r .length) written);
+          rest = rw is (sent-rest (x .packet) (x .payload) out (r .length) written);
+          count = (count-is, rw count-is (only-visits-matter .atMostFour entries (t .address)));
         }
 
 -- ---- refusals
@@ -183,7 +192,7 @@ module _ (host : ℕ) (b : List ℕ) (p : Packet) (t : TranslationRequest) (v : 
 abbrev Refuses : List ℕ → Observation → Type 0
 Refuses out o = (n : ℕ) → o .answer ≡ refusal n → (isAmong n hostNumbers ≡ true) × (o .buffer ≡ out)
 
-module _ (host : ℕ) (b table out : List ℕ) where
+module _ (host : ℕ) (b entries out : List ℕ) where
   refuses-with : (n : ℕ) → isAmong n hostNumbers ≡ true → Refuses out (refusedWith n out)
   refuses-with n h k e = let same : n ≡ k = cc in (rw same at h, refl)
 
@@ -197,14 +206,14 @@ module _ (host : ℕ) (b table out : List ℕ) where
       → Refuses out (answering host (p .head) t w out)
   refuses-due p t read request w =
       let x = replyTo host (p .head) t (w .end) in
-      let n = 12 + length (x .load) in
+      let n = 12 + length (x .payload) in
       rw (due-writes host b p t read request (w .end) (length out))
-      (refuses-written (x .reply) (length (w .visits)) (bytesOf (x .packet) (x .load)) (checkRoom n (length out))
+      (refuses-written (x .reply) (length (w .visits)) (bytesOf (x .packet) (x .payload)) (checkRoom n (length out))
       (among-case hostNumbers (ltb (length out) n) (refusal 17) (ok n) (λ short. among-refusal hostNumbers 17 refl) (λ fits. among-ok hostNumbers n)))
 
-  refuses-body : (p : Packet) → reading b ≡ ok p → (y : Body) → p .body ≡ y → Refuses out (translatingBody host table out (p .head) y)
+  refuses-body : (p : Packet) → reading b ≡ ok p → (y : Body) → p .body ≡ y → Refuses out (translatingBody host entries out (p .head) y)
   unfolding translatingBody
-  refuses-body p read (Tr t) request = refuses-due p t read request (walked table (t .address))
+  refuses-body p read (Tr t) request = refuses-due p t read request (walked entries (t .address))
   refuses-body p read (Mem m) e = refuses-with 2 refl
   refuses-body p read (Cpl c) e = refuses-with 2 refl
   refuses-body p read (Inv i) e = refuses-with 2 refl
@@ -212,20 +221,20 @@ module _ (host : ℕ) (b table out : List ℕ) where
   refuses-body p read (Prq q) e = refuses-with 2 refl
   refuses-body p read (Prs s) e = refuses-with 2 refl
 
-  refuses-read : (s : Result Packet) → reading b ≡ s → Refuses out (translatingIf host table out s)
+  refuses-read : (s : Result Packet) → reading b ≡ s → Refuses out (translatingIf host entries out s)
   refuses-read (ok p) e = refuses-body p e (p .body) refl
   refuses-read (refusal n) e =
       refuses-with n (among-monotone (1 ∷ 2 ∷ 3 ∷ 4 ∷ []) hostNumbers (reading b) refl (reading-numbers b) .one n e)
 
-  refuses : Refuses out (translating host b table out)
+  refuses : Refuses out (translating host b entries out)
   unfolding translating
   refuses = refuses-read (reading b) refl
 
 pub host-replies : HostReplies
 host-replies =
     record {
-      answer = λ host b table out p t read request. answers host b p t read request table out;
-      reads = λ host b table out p t r v e. reads-back host b p t v table out r e;
+      answer = λ host b entries out p t read request. answers host b p t read request entries out;
+      reads = λ host b entries out p t r v e. reads-back host b p t v entries out r e;
       tables = λ host b t u out p q read request long same. same-tables host b p q read request t u out long same;
-      refused = λ host b table out n e. refuses host b table out n e;
+      refused = λ host b entries out n e. refuses host b entries out n e;
     }

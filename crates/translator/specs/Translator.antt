@@ -52,6 +52,12 @@ translationTo nowrite m =
 
 -- ---- the reply: a completion from the host, in the Traffic Class of the request, for its sender and tag
 
+-- the completion status of each reply: 000, and 100 (Completer Abort)
+abbrev pub statusOf : Reply → ℕ
+statusOf Successful = 0
+statusOf CompleterAbort = 4
+
+-- h is the head of the request; `count` is Byte Count, `lower` is Lower Address
 abbrev pub replyPacket : ℕ → Head → Tag → Outcome → ℕ → ℕ → Packet
 replyPacket host h t outcome count lower =
     record {
@@ -59,21 +65,21 @@ replyPacket host h t outcome count lower =
       body = Cpl (record { outcome = outcome; count = count; requester = h .sender; tag = t; lower = lower });
     }
 
--- what it is, the packet, and the packet's payload
+-- a reply before it is written: what it is, its fields, and its payload
 pub record Prepared : Type 0 where
   pub reply : Reply
   pub packet : Packet
-  pub load : List ℕ
+  pub payload : List ℕ
 
--- one translation of two DWORDs, which end on a boundary of 128 bytes
+-- one translation: Length 2 and Byte Count 8; Lower Address 120 is 128 - 8, for the host's RCB of 128
 abbrev pub translationReply : ℕ → Head → Tag → Translation → Prepared
 translationReply host h t x =
-    record { reply = Successful; packet = replyPacket host h t (Data 2) 8 120; load = eightBytes (wordOf x) }
+    record { reply = Successful; packet = replyPacket host h t (Data 2) 8 120; payload = eightBytes (wordOf x) }
 
--- status 100, and as Byte Count the bytes that were requested
+-- status 100; Byte Count is 4 × the Length of the request
 abbrev pub statusReply : ℕ → Head → Tag → ℕ → Prepared
 statusReply host h t dwords =
-    record { reply = CompleterAbort; packet = replyPacket host h t (Status 4) (4 * dwords) 0; load = [] }
+    record { reply = CompleterAbort; packet = replyPacket host h t (Status (statusOf CompleterAbort)) (4 * dwords) 0; payload = [] }
 
 abbrev pub replyTo : ℕ → Head → TranslationRequest → End → Prepared
 replyTo host h t (Mapped m) = translationReply host h (t .tag) (translationTo (t .nowrite) m)
@@ -91,41 +97,38 @@ abbrev pub refusedWith : ℕ → List ℕ → Observation
 refusedWith n out = record { answer = refusal n; buffer = out }
 
 abbrev pub repliedIf : Reply → ℕ → Result ℕ → Result Report
-repliedIf what visits (ok n) = ok (record { reply = what; length = n; visits = visits })
-repliedIf what visits (refusal n) = refusal n
+repliedIf reply count (ok n) = ok (record { reply = reply; length = n; count = count })
+repliedIf reply count (refusal n) = refusal n
 
--- the reply is written if there is room, otherwise refused with 17; the answer counts the entries that the walk read
-abbrev pub replying : Reply → Packet → List ℕ → ℕ → List ℕ → Observation
-replying what p load visits out =
+-- the reply is written if there is room, otherwise refused with 17; `count` entries were read
+abbrev pub replying : Prepared → ℕ → List ℕ → Observation
+replying x count out =
     record {
-      answer = repliedIf what visits (writing p (length load) (length out));
-      buffer = bufferAfter (writing p (length load) (length out)) (bytesOf p load) out;
+      answer = repliedIf (x .reply) count (writing (x .packet) (length (x .payload)) (length out));
+      buffer = bufferAfter (writing (x .packet) (length (x .payload)) (length out)) (bytesOf (x .packet) (x .payload)) out;
     }
-
-abbrev pub replyingAs : Prepared → ℕ → List ℕ → Observation
-replyingAs x visits out = replying (x .reply) (x .packet) (x .load) visits out
 
 -- only the first unit of a request is translated
 abbrev pub answering : ℕ → Head → TranslationRequest → Walked → List ℕ → Observation
-answering host h t w out = replyingAs (replyTo host h t (w .end)) (length (w .visits)) out
+answering host h t w out = replying (replyTo host h t (w .end)) (length (w .visits)) out
 
 -- every other kind is refused with 2
 unfoldable pub translatingBody : ℕ → List ℕ → List ℕ → Head → Body → Observation
-translatingBody host table out h (Tr t) = answering host h t (walked table (t .address)) out
-translatingBody host table out h (Mem m) = refusedWith 2 out
-translatingBody host table out h (Cpl c) = refusedWith 2 out
-translatingBody host table out h (Inv i) = refusedWith 2 out
-translatingBody host table out h (Ic i) = refusedWith 2 out
-translatingBody host table out h (Prq q) = refusedWith 2 out
-translatingBody host table out h (Prs s) = refusedWith 2 out
+translatingBody host entries out h (Tr t) = answering host h t (walked entries (t .address)) out
+translatingBody host entries out h (Mem m) = refusedWith 2 out
+translatingBody host entries out h (Cpl c) = refusedWith 2 out
+translatingBody host entries out h (Inv i) = refusedWith 2 out
+translatingBody host entries out h (Ic i) = refusedWith 2 out
+translatingBody host entries out h (Prq q) = refusedWith 2 out
+translatingBody host entries out h (Prs s) = refusedWith 2 out
 
 -- the refusals of reading come first
 abbrev pub translatingIf : ℕ → List ℕ → List ℕ → Result Packet → Observation
-translatingIf host table out (ok p) = translatingBody host table out (p .head) (p .body)
-translatingIf host table out (refusal n) = refusedWith n out
+translatingIf host entries out (ok p) = translatingBody host entries out (p .head) (p .body)
+translatingIf host entries out (refusal n) = refusedWith n out
 
 unfoldable pub translating : ℕ → List ℕ → List ℕ → List ℕ → Observation
-translating host b table out = translatingIf host table out (reading b)
+translating host b entries out = translatingIf host entries out (reading b)
 
 -- the result of an answer of the code
 abbrev pub translateResult : Translating → Result Report

@@ -1,5 +1,6 @@
 // The public interface of the host: it takes a Translation Request and lent page tables, and sends
 // the reply.
+use packet::Attr;
 use packet::Body;
 use packet::Completion;
 use packet::Head;
@@ -16,14 +17,14 @@ pub use walk::End;
 pub use walk::Mapping;
 pub use walk::Rights;
 pub use walk::Walk;
+use walk::is_none;
 pub use walk::walk_tables;
 ghost use mathlib.Core.Path.{_≡_};
 ghost use mathlib.Core.Bool.{true};
 ghost use Prim.Native.Nat.{_≤_};
 ghost use Rattle.packet.specs.Frames.{eightBytes};
 ghost use Rattle.packet.specs.Kinds.{allowedBody};
-ghost use Rattle.walk.specs.Walk.{isNone};
-ghost use Rattle.translator.specs.Translator.{finalRights, translationWith, translationTo, nullTranslation, replyPacket, replying, replyingAs, translationReply, statusReply, replyTo, translatingBody, translating, observation};
+ghost use Rattle.translator.specs.Translator.{finalRights, translationWith, translationTo, nullTranslation, replyPacket, replying, translationReply, statusReply, replyTo, translatingBody, translating, observation};
 
 // The status of a reply: 000, with a translation; or 100.
 pub enum Reply {
@@ -35,7 +36,7 @@ pub enum Reply {
 pub struct Report {
     pub reply: Reply,
     pub length: usize,
-    pub visits: u32,
+    pub count: u32,
 }
 
 // The result of a call: a reply, or a refusal.
@@ -51,16 +52,6 @@ fn final_rights(nowrite: bool, g: Rights) -> Rights
         Rights { r: g.r, w: false }
     } else {
         g
-    }
-}
-
-fn is_none(g: Rights) -> bool
-    ensures { λ r. ⌜ r ≡ isNone g ⌝ }
-{
-    if g.r {
-        false
-    } else {
-        if g.w { false } else { true }
     }
 }
 
@@ -89,11 +80,11 @@ fn translation_to(nowrite: bool, m: Mapping) -> Translation
     ensures { λ r. ⌜ r ≡ translationTo nowrite m ⌝ }
 {
     let granted = m.rights;
-    let left = final_rights(nowrite, granted);
-    if is_none(left) {
+    let rights = final_rights(nowrite, granted);
+    if is_none(rights) {
         null_translation()
     } else {
-        translation_with(m.base, m.exponent, left)
+        translation_with(m.base, m.exponent, rights)
     }
 }
 
@@ -108,7 +99,7 @@ fn reply_packet(host: u16, h: Head, tag: Tag, outcome: Outcome, count: u16, lowe
         tag,
         lower,
     });
-    let attr = packet::Attr {
+    let attr = Attr {
         ido: false,
         relaxed: false,
         nosnoop: false,
@@ -123,6 +114,7 @@ fn reply_packet(host: u16, h: Head, tag: Tag, outcome: Outcome, count: u16, lowe
     }
 }
 
+// High byte first.
 fn eight_bytes(x: u64) -> [u8; 8]
     ensures { λ r. ⌜ r ≡ eightBytes x ⌝ }
 {
@@ -138,14 +130,15 @@ fn eight_bytes(x: u64) -> [u8; 8]
     ]
 }
 
-fn send(reply: Reply, p: Packet, payload: &[u8], visits: u32, out: &mut [u8]) -> Translating
-    ensures { λ r. ⌜ observation r (now (out .exit)) ≡ replying reply p (now (payload .entry)) visits (now (out .entry)) ⌝ }
+// Writes a reply, if there is room. `count` entries were read.
+fn send(reply: Reply, p: Packet, payload: &[u8], count: u32, out: &mut [u8]) -> Translating
+    ensures { λ r. ⌜ observation r (now (out .exit)) ≡ replying (record { reply = reply; packet = p; payload = now (payload .entry) }) count (now (out .entry)) ⌝ }
 {
     match tlp::write_packet(p, payload, out) {
         Writing::Written(n) => Translating::Replied(Report {
             reply,
             length: n,
-            visits,
+            count,
         }),
         Writing::Refused(r) => Translating::Refused(r),
     }
@@ -156,35 +149,29 @@ fn send_translation(
     h: Head,
     tag: Tag,
     x: Translation,
-    visits: u32,
+    count: u32,
     out: &mut [u8],
 ) -> Translating
-    ensures { λ r. ⌜ observation r (now (out .exit)) ≡ replyingAs (translationReply host h tag x) visits (now (out .entry)) ⌝ }
+    ensures { λ r. ⌜ observation r (now (out .exit)) ≡ replying (translationReply host h tag x) count (now (out .entry)) ⌝ }
 {
     let payload = eight_bytes(tlp::word_of(x));
     let p = reply_packet(host, h, tag, Outcome::Data(2), 8, 120);
-    send(Reply::Successful, p, &payload, visits, out)
+    send(Reply::Successful, p, &payload, count, out)
 }
 
-fn send_status(
-    host: u16,
-    h: Head,
-    tag: Tag,
-    dwords: u16,
-    visits: u32,
-    out: &mut [u8],
-) -> Translating
+fn send_status(host: u16, h: Head, tag: Tag, dwords: u16, count: u32, out: &mut [u8]) -> Translating
     requires { ⌜ dwords ≤ 32 ⌝ }
-    ensures { λ r. ⌜ observation r (now (out .exit)) ≡ replyingAs (statusReply host h tag dwords) visits (now (out .entry)) ⌝ }
+    ensures { λ r. ⌜ observation r (now (out .exit)) ≡ replying (statusReply host h tag dwords) count (now (out .entry)) ⌝ }
 {
     let none: [u8; 0] = [0; 0];
     let p = reply_packet(host, h, tag, Outcome::Status(4), 4 * dwords, 0);
-    send(Reply::CompleterAbort, p, &none, visits, out)
+    send(Reply::CompleterAbort, p, &none, count, out)
 }
 
+// Sends the reply that a walk gives.
 fn answer(host: u16, h: Head, t: TranslationRequest, w: Walk, out: &mut [u8]) -> Translating
     requires { ⌜ t .dwords ≤ 32 ⌝ }
-    ensures { λ r. ⌜ observation r (now (out .exit)) ≡ replyingAs (replyTo host h t (w .end)) (w .visits) (now (out .entry)) ⌝ }
+    ensures { λ r. ⌜ observation r (now (out .exit)) ≡ replying (replyTo host h t (w .end)) (w .count) (now (out .entry)) ⌝ }
 {
     let end = w.end;
     let tag = t.tag;
@@ -194,20 +181,20 @@ fn answer(host: u16, h: Head, t: TranslationRequest, w: Walk, out: &mut [u8]) ->
             h,
             tag,
             translation_to(t.nowrite, m),
-            w.visits,
+            w.count,
             out,
         ),
-        End::Unmapped => send_translation(host, h, tag, null_translation(), w.visits, out),
-        End::NotLent => send_status(host, h, tag, t.dwords, w.visits, out),
+        End::Unmapped => send_translation(host, h, tag, null_translation(), w.count, out),
+        End::NotLent => send_status(host, h, tag, t.dwords, w.count, out),
     }
 }
 
-fn translate_body(host: u16, h: Head, body: Body, table: &[u64], out: &mut [u8]) -> Translating
+fn translate_body(host: u16, h: Head, body: Body, entries: &[u64], out: &mut [u8]) -> Translating
     requires { ⌜ allowedBody (h .tc) body ≡ true ⌝ }
-    ensures { λ r. ⌜ observation r (now (out .exit)) ≡ translatingBody host (now (table .entry)) (now (out .entry)) h body ⌝ }
+    ensures { λ r. ⌜ observation r (now (out .exit)) ≡ translatingBody host (now (entries .entry)) (now (out .entry)) h body ⌝ }
 {
     match body {
-        Body::Tr(t) => answer(host, h, t, walk_tables(table, t.address), out),
+        Body::Tr(t) => answer(host, h, t, walk_tables(entries, t.address), out),
         Body::Mem(_) => Translating::Refused(Refusal::UnsupportedKind),
         Body::Cpl(_) => Translating::Refused(Refusal::UnsupportedKind),
         Body::Inv(_) => Translating::Refused(Refusal::UnsupportedKind),
@@ -217,15 +204,16 @@ fn translate_body(host: u16, h: Head, body: Body, table: &[u64], out: &mut [u8])
     }
 }
 
-// Replies to a Translation Request that the host received. A refused call leaves `out` unchanged.
-pub fn translate(host: u16, b: &[u8], table: &[u64], out: &mut [u8]) -> Translating
-    ensures { λ r. ⌜ observation r (now (out .exit)) ≡ translating host (now (b .entry)) (now (table .entry)) (now (out .entry)) ⌝ }
+// Replies to a Translation Request: `host` is the host's ID, `b` the bytes received, `entries` the
+// lent tables. The reply is at the start of `out`. A refused call leaves `out` unchanged.
+pub fn translate(host: u16, b: &[u8], entries: &[u64], out: &mut [u8]) -> Translating
+    ensures { λ r. ⌜ observation r (now (out .exit)) ≡ translating host (now (b .entry)) (now (entries .entry)) (now (out .entry)) ⌝ }
 {
     match tlp::read_packet(b) {
         Reading::Read(p) => {
             let head = p.head;
             let body = p.body;
-            translate_body(host, head, body, table, out)
+            translate_body(host, head, body, entries, out)
         }
         Reading::Refused(r) => Translating::Refused(r),
     }

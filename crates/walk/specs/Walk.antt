@@ -2,7 +2,7 @@
 use mathlib.Core.Bool.{Bool, true, cond, not, _&&_, _||_}
 use mathlib.Core.List.{List, [], _∷_}
 use Prim.Native.Nat.{ℕ, zero, suc, _+_, _*_, _/_, _%_, _^_}
-use lib.Dec.{eqb, leb, ltb}
+use lib.Dec.{eqb, leb}
 use lib.ListN.{getD, length}
 use Rattle.ranges.specs.Size.{bit}
 use Rattle.ranges.specs.Range.{regionOf}
@@ -12,15 +12,15 @@ use Rattle.walk.specs.declared.End.{End}
 use Rattle.walk.specs.declared.End.the-variants.{Mapped, Unmapped, NotLent}
 use Rattle.walk.specs.declared.Walk.{Walk}
 
--- ---- an entry
+-- ---- a table entry
 
 -- R in bit 0, W in bit 1
 abbrev pub rightsIn : ℕ → Rights
 rightsIn x = record { r = eqb (x % 2) 1; w = bit x 1 }
 
--- bits 51:12 are the number of the next table, or of a page of 4096 bytes
-abbrev pub numberIn : ℕ → ℕ
-numberIn x = x / 4096 % 2 ^ 40
+-- the number of the next table, or of a page of 4096 bytes
+abbrev pub bits51To12 : ℕ → ℕ
+bits51To12 x = x / 4096 % 2 ^ 40
 
 -- ---- rights
 
@@ -34,26 +34,35 @@ isNone g = not (g .r || g .w)
 abbrev pub bothGrant : Rights → Rights → Rights
 bothGrant g h = record { r = g .r && h .r; w = g .w && h .w }
 
--- ---- tables and levels: n levels lie below a level, 3 below the first and none below the fourth
+-- ---- tables and levels: n is the number of levels below, 3, 2, 1 and 0 at levels 1, 2, 3 and 4
 
 -- table k is entries 512 k to 512 k + 511; it is lent only as a whole
 abbrev pub isLent : List ℕ → ℕ → Bool
-isLent table k = leb (512 * (k + 1)) (length table)
+isLent entries k = leb (512 * (k + 1)) (length entries)
 
--- an entry stands for 2 ^ 39, 2 ^ 30, 2 ^ 21 or 2 ^ 12 bytes, from the first level down
-abbrev pub spanExponent : ℕ → ℕ
-spanExponent n = 12 + 9 * n
+-- one entry covers 2 ^ 39, 2 ^ 30, 2 ^ 21 or 2 ^ 12 bytes, from level 1 down
+abbrev pub coveredExponent : ℕ → ℕ
+coveredExponent n = 12 + 9 * n
 
 -- the index in a table of that level: bits 47:39, 38:30, 29:21 or 20:12 of the address
 abbrev pub indexAt : ℕ → ℕ → ℕ
-indexAt n a = a / 2 ^ spanExponent n % 512
+indexAt n a = a / 2 ^ coveredExponent n % 512
 
 abbrev pub tableEntry : List ℕ → ℕ → ℕ → ℕ
-tableEntry table k i = getD table (512 * k + i) 0
+tableEntry entries k i = getD entries (512 * k + i) 0
 
--- bit 7 means nothing at the first level; above the fourth, it makes an entry a page of what the entry stands for
+-- bit 7 counts only at levels 2 and 3: the entry then maps a page of 1 GiB or 2 MiB
 abbrev pub isLarge : ℕ → ℕ → Bool
-isLarge n x = ltb n 3 && bit x 7
+isLarge n x = (eqb n 1 || eqb n 2) && bit x 7
+
+-- the page that an entry maps; bits of its address below its size are ignored
+abbrev pub pageOf : ℕ → ℕ → Rights → Mapping
+pageOf n x rights =
+    record {
+      base = regionOf (bits51To12 x * 4096) (coveredExponent n) .first;
+      exponent = coveredExponent n;
+      rights = rights;
+    }
 
 -- ---- the walk: the entries that it reads, in order, and how it ends
 
@@ -73,34 +82,29 @@ endsIn e = record { visits = []; end = e }
 abbrev pub visiting : ℕ → ℕ → Walked → Walked
 visiting k i rest = record { visits = record { table = k; index = i } ∷ rest .visits; end = rest .end }
 
--- Entry i of table k is read if the table is lent. If it grants neither right the walk ends there; otherwise `next`
--- follows, with the entry and the rights that it and the entries above it grant.
+-- Entry i of table k is read if the table is lent. If it grants neither right the walk ends there. Otherwise `next` follows,
+-- with the entry, and with the rights that it grants together with the entries above it.
 abbrev pub entryRead : List ℕ → ℕ → ℕ → Rights → (ℕ → Rights → Walked) → Walked
-entryRead table k i granted next =
-    cond (isLent table k)
+entryRead entries k i above next =
+    cond (isLent entries k)
     (visiting k i
-    (cond (isNone (rightsIn (tableEntry table k i))) (endsIn Unmapped)
-    (next (tableEntry table k i) (bothGrant granted (rightsIn (tableEntry table k i))))))
+    (cond (isNone (rightsIn (tableEntry entries k i))) (endsIn Unmapped)
+    (next (tableEntry entries k i) (bothGrant above (rightsIn (tableEntry entries k i))))))
     (endsIn NotLent)
 
--- the page that an entry maps; bits of its address below its size are ignored
-abbrev pub pageOf : ℕ → ℕ → Rights → Mapping
-pageOf n x rights =
-    record { base = regionOf (numberIn x * 4096) (spanExponent n) .first; exponent = spanExponent n; rights = rights }
-
--- the walk from table k on, at a level with n levels below it; `granted` is what the entries above it grant
+-- the walk from table k on, at a level with n levels below; `above` is what the entries above it grant
 unfoldable pub walkFrom : ℕ → List ℕ → ℕ → ℕ → Rights → Walked
-walkFrom zero table a k granted =
-    entryRead table k (indexAt zero a) granted (λ x rights. endsIn (Mapped (pageOf zero x rights)))
-walkFrom (suc n) table a k granted =
-    entryRead table k (indexAt (suc n) a) granted (λ x rights.
+walkFrom zero entries a k above =
+    entryRead entries k (indexAt zero a) above (λ x rights. endsIn (Mapped (pageOf zero x rights)))
+walkFrom (suc n) entries a k above =
+    entryRead entries k (indexAt (suc n) a) above (λ x rights.
     cond (isLarge (suc n) x) (endsIn (Mapped (pageOf (suc n) x rights)))
-    (walkFrom n table a (numberIn x) rights))
+    (walkFrom n entries a (bits51To12 x) rights))
 
 -- an address of more than 48 bits is not walked; any other is, from table 0 on
 unfoldable pub walked : List ℕ → ℕ → Walked
-walked table a = cond (leb (2 ^ 48) a) (endsIn Unmapped) (walkFrom 3 table a 0 allRights)
+walked entries a = cond (leb (2 ^ 48) a) (endsIn Unmapped) (walkFrom 3 entries a 0 allRights)
 
 -- the answer of the code: how the walk ends, and how many entries it read
 abbrev pub counted : Walked → Walk
-counted w = record { end = w .end; visits = length (w .visits) }
+counted w = record { end = w .end; count = length (w .visits) }

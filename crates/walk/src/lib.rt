@@ -4,14 +4,14 @@ ghost use mathlib.Core.Path.{_≡_};
 ghost use mathlib.Core.Bool.{_&&_, _||_};
 ghost use Prim.Native.Nat.{_^_, _<_, _≤_};
 ghost use lib.Dec.{eqb};
-ghost use Rattle.walk.specs.Walk.{rightsIn, numberIn, isNone, bothGrant, spanExponent, indexAt, isLarge, pageOf, walked, counted};
+ghost use Rattle.walk.specs.Walk.{rightsIn, bits51To12, isNone, bothGrant, coveredExponent, indexAt, isLarge, pageOf, walked, counted};
 
 pub struct Rights {
     pub r: bool,
     pub w: bool,
 }
 
-// A page of 2^exponent bytes, and what every entry on the way to it grants.
+// A page of 2^exponent bytes, and the rights that every entry on the way to it grants.
 pub struct Mapping {
     pub base: u64,
     pub exponent: u32,
@@ -29,7 +29,7 @@ pub enum End {
 // How a walk ended, and how many table entries it read.
 pub struct Walk {
     pub end: End,
-    pub visits: u32,
+    pub count: u32,
 }
 
 // R in bit 0, W in bit 1.
@@ -42,14 +42,15 @@ fn rights_in(entry: u64) -> Rights
     }
 }
 
-// Bits 51:12: the number of the next table, or of a page of 4096 bytes.
-fn number_in(entry: u64) -> u64
-    ensures { λ r. ⌜ (r ≡ numberIn entry) × (r < 2 ^ 40) ⌝ }
+// The number of the next table, or of a page of 4096 bytes.
+fn bits_51_to_12(entry: u64) -> u64
+    ensures { λ r. ⌜ (r ≡ bits51To12 entry) × (r < 2 ^ 40) ⌝ }
 {
     entry / 4096 % 0x100_0000_0000
 }
 
-fn is_none(g: Rights) -> bool
+// Does it grant neither right?
+pub fn is_none(g: Rights) -> bool
     ensures { λ r. ⌜ r ≡ isNone g ⌝ }
 {
     if g.r {
@@ -74,10 +75,11 @@ fn both_grant(g: Rights, h: Rights) -> Rights
     }
 }
 
-// Here and below, `below` is the number of levels below the entry's own.
-fn span_exponent(below: u32) -> u32
+// How much one entry covers. In this file, `below` is the number of levels below the entry's: 3 at
+// level 1, 0 at level 4.
+fn covered_exponent(below: u32) -> u32
     requires { ⌜ below ≤ 3 ⌝ }
-    ensures { λ r. ⌜ (r ≡ spanExponent below) × (r ≤ 39) ⌝ }
+    ensures { λ r. ⌜ (r ≡ coveredExponent below) × (r ≤ 39) ⌝ }
 {
     12 + 9 * below
 }
@@ -86,10 +88,10 @@ fn index_at(below: u32, address: u64) -> u64
     requires { ⌜ below ≤ 3 ⌝ }
     ensures { λ r. ⌜ (r ≡ indexAt below address) × (r < 512) ⌝ }
 {
-    (address >> span_exponent(below)) % 512
+    (address >> covered_exponent(below)) % 512
 }
 
-// Does the entry map a page? Bit 7 counts at the second and the third level.
+// Does the entry map a page? Bit 7 is used at levels 2 and 3.
 fn is_page(below: u32, entry: u64) -> bool
     ensures { λ r. ⌜ r ≡ (eqb below 0 || isLarge below entry) ⌝ }
 {
@@ -107,8 +109,8 @@ fn page_of(below: u32, entry: u64, rights: Rights) -> Mapping
     requires { ⌜ below ≤ 3 ⌝ }
     ensures { λ r. ⌜ r ≡ pageOf below entry rights ⌝ }
 {
-    let exponent = span_exponent(below);
-    let base = region(number_in(entry) * 4096, exponent).first;
+    let exponent = covered_exponent(below);
+    let base = region(bits_51_to_12(entry) * 4096, exponent).first;
     Mapping {
         base,
         exponent,
@@ -117,42 +119,43 @@ fn page_of(below: u32, entry: u64, rights: Rights) -> Mapping
 }
 
 // Walks the lent tables from table 0 on.
-pub fn walk_tables(table: &[u64], address: u64) -> Walk
-    ensures { λ r. ⌜ r ≡ counted (walked (now (table .entry)) address) ⌝ }
+pub fn walk_tables(entries: &[u64], address: u64) -> Walk
+    ensures { λ r. ⌜ r ≡ counted (walked (now (entries .entry)) address) ⌝ }
 {
-    let mut visits: u32 = 0;
-    let mut k: u64 = 0;
-    let mut granted = Rights { r: true, w: true };
     if 0x1_0000_0000_0000 <= address {
         return Walk {
             end: End::Unmapped,
-            visits,
+            count: 0,
         };
     }
+    let mut count: u32 = 0;
+    let mut k: u64 = 0;
+    let mut granted = Rights { r: true, w: true };
     loop {
-        let below = 3 - visits;
-        if (table.len() as u64) < 512 * (k + 1) {
+        // One entry is read at each level.
+        let below = 3 - count;
+        if (entries.len() as u64) < 512 * (k + 1) {
             return Walk {
                 end: End::NotLent,
-                visits,
+                count,
             };
         }
-        let entry = table[(512 * k + index_at(below, address)) as usize];
+        let entry = entries[(512 * k + index_at(below, address)) as usize];
         let own = rights_in(entry);
-        visits += 1;
+        count += 1;
         granted = both_grant(granted, own);
         if is_none(own) {
             return Walk {
                 end: End::Unmapped,
-                visits,
+                count,
             };
         }
         if is_page(below, entry) {
             return Walk {
                 end: End::Mapped(page_of(below, entry, granted)),
-                visits,
+                count,
             };
         }
-        k = number_in(entry);
+        k = bits_51_to_12(entry);
     }
 }

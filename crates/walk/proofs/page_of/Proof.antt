@@ -2,11 +2,11 @@ use borrow.Author.Needs.{needs}
 use Rattle.walk.proofs.page_of.Statement.{statement}
 use Rattle.walk.proofs.page_of.Tie as tie
 
-span-exponent-requires : tie.Need-span-exponent-requires
-span-exponent-requires c κs = search needs
+covered-exponent-requires : tie.Need-covered-exponent-requires
+covered-exponent-requires c κs = search needs
 
-number-in-requires : tie.Need-number-in-requires
-number-in-requires c κs = search needs
+bits-51-to-12-requires : tie.Need-bits-51-to-12-requires
+bits-51-to-12-requires c κs = search needs
 
 mul-region : tie.Need-mul-region
 mul-region c = search needs
@@ -15,9 +15,9 @@ region-requires : tie.Need-region-requires
 region-requires c κs = search needs
 
 returns : tie.Need-returns
-returns c = rw (c .region .ensures, c .before .number-in .ensures .0, c .before .before .span-exponent .ensures .0)
+returns c = rw (c .region .ensures, c .before .bits-51-to-12 .ensures .0, c .before .before .covered-exponent .ensures .0)
 
 pub page-of-spec : {M : Type 1} → statement M
 page-of-spec =
     tie.close
-    (tie.spec span-exponent-requires number-in-requires mul-region region-requires returns)
+    (tie.spec covered-exponent-requires bits-51-to-12-requires mul-region region-requires returns)

@@ -32,13 +32,13 @@ fn pack_end(end: End) -> u64 {
     }
 }
 
-fn pack_count(count: u32) -> u64 {
-    count as u64 * 256
+fn pack_visited(visited: u32) -> u64 {
+    visited as u64 * 256
 }
 
 fn pack_walk(w: Walk) -> u64 {
     let end = w.end;
-    pack_end(end) | pack_count(w.count)
+    pack_end(end) | pack_visited(w.visited)
 }
 
 fn pack_reply(reply: Reply) -> u64 {
@@ -50,7 +50,7 @@ fn pack_reply(reply: Reply) -> u64 {
 
 fn pack_replied(done: Report) -> u64 {
     let reply = done.reply;
-    pack_reply(reply) | pack_count(done.count) | done.length as u64
+    pack_reply(reply) | pack_visited(done.visited) | done.length as u64
 }
 
 fn pack_translating(t: Translating) -> u64 {

@@ -20,9 +20,9 @@ use Rattle.text.specs.Digits.{allHex, unhex, decimal, decimalIn}
 use Rattle.ranges.specs.declared.Translation.{Translation}
 use Rattle.ranges.specs.declared.Size.{Size}
 use Rattle.ranges.specs.declared.Size.the-variants.{Exponent, NoSize}
-use Rattle.ranges.specs.Size.{sizeOf, translationOf}
+use Rattle.ranges.specs.Size.{sizeOf, translationOf, coded, wordOf}
 use lib.Dec.{ltb}
-use lib.ListN.{replicate}
+use lib.ListN.{replicate, set, take}
 use Rattle.tags.specs.declared.TagState.the-variants.{Translate}
 use Rattle.tags.specs.Tags.{tagState}
 use Rattle.translations.specs.declared.Rcb.the-variants.{B64}
@@ -37,6 +37,10 @@ use Rattle.card.specs.declared.Command.{Command}
 use Rattle.card.specs.declared.Command.the-variants.{Reset, Enable, Ask, Access, Receive, PagesOn, PageRequest as Requests}
 use Rattle.card.specs.Call.{step}
 use Rattle.card.proofs.Computed.{computed}
+use Rattle.walk.specs.Walk.{walkFrom, walked}
+use Rattle.translator.specs.declared.Reply.{Reply}
+use Rattle.translator.specs.declared.Reply.the-variants.{Successful, CompleterAbort}
+use Rattle.translator.specs.Translator.{Observation, translatingBody, translating}
 
 -- an example is an equation
 record Example : Type 1 where
@@ -147,6 +151,28 @@ abbrev afterInvalidate : Function
 afterInvalidate =
     functionAfter (started 2) ((ask 0x0FFF_FFFF_C000 2, []) ∷ (Receive, invalidate 0x0000_1000 0x0000_1800) ∷ [])
 
+-- 02 b: tables 0 and 1 of the host. Address 1 4000 0000h leads through entry 0 of table 0 to entry 5 of table 1, a page of
+-- 1 GiB at 8000 0000h with R and W.
+abbrev tables : List ℕ
+tables = set (set (replicate 1024 0) 0 0x1003) 517 0x8000_0083
+
+-- the request of Function 0100h for one unit there, with this low DWORD of its address field: bit 0 is No Write
+abbrev request : ℕ → List ℕ
+request low = fourBytes 0x2000_0402 ++ fourBytes 0x0100_00FF ++ fourBytes 0x0000_0001 ++ fourBytes low
+
+-- what the host 0200h does with it, given a buffer of 20 bytes
+abbrev hostDoes : List ℕ → List ℕ → Observation
+hostDoes b entries = translating 0x0200 b entries (replicate 20 0)
+
+-- its completion with this translation
+abbrev hostReply : ℕ → ℕ → List ℕ
+hostReply high low =
+    fourBytes 0x4A00_0002 ++ fourBytes 0x0200_0008 ++ fourBytes 0x0100_0078 ++ fourBytes high ++ fourBytes low
+
+abbrev hostAnswers : Reply → ℕ → ℕ → List ℕ → Observation
+hostAnswers what length visited buffer =
+    record { answer = ok (record { reply = what; length = length; visited = visited }); buffer = buffer }
+
 abbrev examples : List Example
 examples =
     -- 1: the body of a request, and a translation: 8192 bytes at 0; 16384 at 0
@@ -196,6 +222,16 @@ examples =
     -- the unnamed bits of these bytes mean nothing, and are written as zero
     ∷ reading (pageBytes 0x308B_2F00) is ok (pageRequest relaxedOrdering)
     ∷ bytesOf (pageRequest relaxedOrdering) [] is pageBytes 0x3000_2000
+    -- 02 b: the reply with a page of 1 GiB after two entries; with No Write it has R alone
+    ∷ hostDoes (request 0x4000_0000) tables is hostAnswers Successful 20 2 (hostReply 0 0x9FFF_F803)
+    ∷ hostDoes (request 0x4000_0001) tables is hostAnswers Successful 20 2 (hostReply 0 0x9FFF_F801)
+    -- table 1 not wholly lent: status 100 after one entry; no table at all: after none
+    ∷ hostDoes (request 0x4000_0000) (take 1023 tables) is hostAnswers CompleterAbort 12 1 (fourBytes 0x0A00_0000 ++ fourBytes 0x0200_8008 ++ fourBytes 0x0100_0000 ++ replicate 8 0)
+    ∷ hostDoes (request 0x4000_0000) [] is hostAnswers CompleterAbort 12 0 (fourBytes 0x0A00_0000 ++ fourBytes 0x0200_8008 ++ fourBytes 0x0100_0000 ++ replicate 8 0)
+    -- an address of 49 bits: the null translation, and no entry is read
+    ∷ hostDoes (fourBytes 0x2000_0402 ++ fourBytes 0x0100_00FF ++ fourBytes 0x0001_0000 ++ fourBytes 0) [] is hostAnswers Successful 20 0 (hostReply 0 0)
+    -- the Function that asked for two units takes the reply, and reads through both
+    ∷ reads (functionAfter (started 0) ((ask 0x1_4000_0000 2, []) ∷ (Receive, hostReply 0 0x9FFF_F803) ∷ [])) 0x1_4000_1004 is ok (record { address = 0x8000_1004; translated = true })
     ∷ []
 
 -- packets that differ in Attr, in all three bits, and in nothing else: those of which `AttrDecidesNothing` speaks
@@ -203,5 +239,5 @@ pub differ-in-attr : SameButAttr (pageBytes 0x3000_0000) (pageBytes 0x3004_3000)
 differ-in-attr = record { long = refl; byte0 = refl; byte1 = (refl, refl); byte2 = (refl, refl); rest = refl }
 
 pub examples-hold : Hold examples
-unfolding computed allHex unhex decimal decimalIn lineRead lineText outLine
-examples-hold = (refl, (refl, (refl, (refl, (refl, (refl, (refl, (refl, (refl, (refl, (refl, (refl, (refl, (refl, (refl, (refl, (refl, (refl, (refl, (refl, (refl, (refl, (refl, (refl, (refl, (refl, (refl, (refl, (refl, (refl, (refl, (refl, (refl, (refl, (refl, tt)))))))))))))))))))))))))))))))))))
+unfolding computed allHex unhex decimal decimalIn lineRead lineText outLine coded wordOf walkFrom walked translatingBody translating
+examples-hold = (refl, (refl, (refl, (refl, (refl, (refl, (refl, (refl, (refl, (refl, (refl, (refl, (refl, (refl, (refl, (refl, (refl, (refl, (refl, (refl, (refl, (refl, (refl, (refl, (refl, (refl, (refl, (refl, (refl, (refl, (refl, (refl, (refl, (refl, (refl, (refl, (refl, (refl, (refl, (refl, (refl, tt)))))))))))))))))))))))))))))))))))))))))

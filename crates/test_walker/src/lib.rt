@@ -78,7 +78,7 @@ fn letter(reply: Reply) -> u8 {
 fn put_replied(done: Report, lent: &[u8], out: &mut [u8], at: usize) -> usize {
     let reply = done.reply;
     let a = put::byte(out, at, letter(reply));
-    let b = test_lines::put_number(b'\t', done.count as u64, out, a);
+    let b = test_lines::put_number(b'\t', done.visited as u64, out, a);
     let c = put::byte(out, b, b'\t');
     test_lines::put_written(Writing::Written(done.length), lent, out, c)
 }

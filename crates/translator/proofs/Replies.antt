@@ -98,9 +98,9 @@ replied-ok : (what : Reply) (visits : ℕ) (w : Result ℕ) (r : Report) → rep
 replied-ok what visits (ok n) r e = ap (λ (x : Report). ok (x .length)) (ok-injective e)
 replied-ok what visits (refusal n) r e = impossible cc
 
-replied-count : (what : Reply) (count : ℕ) (w : Result ℕ) (r : Report) → repliedIf what count w ≡ ok r → r .count ≡ count
-replied-count what count (ok n) r e = ap (λ (x : Report). x .count) (sym (ok-injective e))
-replied-count what count (refusal n) r e = impossible cc
+replied-visited : (what : Reply) (visited : ℕ) (w : Result ℕ) (r : Report) → repliedIf what visited w ≡ ok r → r .visited ≡ visited
+replied-visited what visited (ok n) r e = ap (λ (x : Report). x .visited) (sym (ok-injective e))
+replied-visited what visited (refusal n) r e = impossible cc
 
 module _ (host : ℕ) (b : List ℕ) (p : Packet) (t : TranslationRequest) (read : reading b ≡ ok p) (request : p .body ≡ Tr t) where
   -- what reading gives
@@ -165,9 +165,9 @@ module _ (host : ℕ) (b : List ℕ) (p : Packet) (t : TranslationRequest) (v : 
     written : writing (x .packet) (length (x .payload)) (length out) ≡ ok (r .length)
     written = replied-ok (x .reply) (length (w .visits)) _ r (rw is at e)
 
-    count-is : r .count ≡ length (w .visits)
-    count-is =
-        replied-count (x .reply) (length (w .visits)) (writing (x .packet) (length (x .payload)) (length out)) r (rw is at e)
+    visited-is : r .visited ≡ length (w .visits)
+    visited-is =
+        replied-visited (x .reply) (length (w .visits)) (writing (x .packet) (length (x .payload)) (length out)) r (rw is at e)
 
     payload-is : payloadIn (take (r .length) (translating host b entries out .buffer)) ≡ x .payload
     payload-is = rw is (sent-payload (x .packet) (x .payload) out (r .length) written (due-typed (w .end)))
@@ -183,7 +183,7 @@ module _ (host : ℕ) (b : List ℕ) (p : Packet) (t : TranslationRequest) (v : 
           holds = holds;
           noWrite = λ n. no-write-held t (w .end) _ holds n;
           rest = rw is (sent-rest (x .packet) (x .payload) out (r .length) written);
-          count = (count-is, rw count-is (only-visits-matter .atMostFour entries (t .address)));
+          visited = (visited-is, rw visited-is (only-visits-matter .atMostFour entries (t .address)));
         }
 
 -- ---- refusals

@@ -44,15 +44,15 @@ Holds t (Mapped m) payload = translationAt payload 0 ≡ translationTo (t .nowri
 Holds t Unmapped payload = translationAt payload 0 ≡ nullTranslation
 Holds t NotLent payload = length payload ≡ 0
 
--- What was sent reads as the reply that is due. With No Write, W is clear. The rest of the buffer is unchanged. The count is
--- that of the walk's visits, at most 4.
+-- What was sent reads as the reply that is due. With No Write, W is clear. The rest of the buffer is unchanged. The report counts
+-- the walk's visits, at most 4.
 pub record ReadsBack (host : ℕ) (b entries out : List ℕ) (p : Packet) (t : TranslationRequest) (r : Report) : Type 0 where
   pub packet : reading (sentFor host b entries out r) ≡ ok (dueReply host entries p t .packet)
   pub payload : payloadIn (sentFor host b entries out r) ≡ dueReply host entries p t .payload
   pub holds : Holds t (walkFor entries t .end) (payloadIn (sentFor host b entries out r))
   pub noWrite : t .nowrite ≡ true → translationAt (payloadIn (sentFor host b entries out r)) 0 .w ≡ false
   pub rest : drop (r .length) (translating host b entries out .buffer) ≡ drop (r .length) out
-  pub count : (r .count ≡ length (walkFor entries t .visits)) × (r .count ≤ 4)
+  pub visited : (r .visited ≡ length (walkFor entries t .visits)) × (r .visited ≤ 4)
 
 -- 1 to 4 from reading, 2 also for another kind, and 17
 abbrev pub hostNumbers : List ℕ

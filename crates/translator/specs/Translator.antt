@@ -97,14 +97,14 @@ abbrev pub refusedWith : ℕ → List ℕ → Observation
 refusedWith n out = record { answer = refusal n; buffer = out }
 
 abbrev pub repliedIf : Reply → ℕ → Result ℕ → Result Report
-repliedIf reply count (ok n) = ok (record { reply = reply; length = n; count = count })
-repliedIf reply count (refusal n) = refusal n
+repliedIf reply visited (ok n) = ok (record { reply = reply; length = n; visited = visited })
+repliedIf reply visited (refusal n) = refusal n
 
--- the reply is written if there is room, otherwise refused with 17; `count` entries were read
+-- the reply is written if there is room, otherwise refused with 17; `visited` entries were read
 abbrev pub replying : Prepared → ℕ → List ℕ → Observation
-replying x count out =
+replying x visited out =
     record {
-      answer = repliedIf (x .reply) count (writing (x .packet) (length (x .payload)) (length out));
+      answer = repliedIf (x .reply) visited (writing (x .packet) (length (x .payload)) (length out));
       buffer = bufferAfter (writing (x .packet) (length (x .payload)) (length out)) (bytesOf (x .packet) (x .payload)) out;
     }
 

@@ -32,11 +32,11 @@ pub enum Reply {
     CompleterAbort,
 }
 
-// What was sent, its length in bytes, and how many table entries the walk read.
+// What was sent, its length in bytes, and the number of entries that the walk read.
 pub struct Report {
     pub reply: Reply,
     pub length: usize,
-    pub count: u32,
+    pub visited: u32,
 }
 
 // The result of a call: a reply, or a refusal.
@@ -130,15 +130,15 @@ fn eight_bytes(x: u64) -> [u8; 8]
     ]
 }
 
-// Writes a reply, if there is room. `count` entries were read.
-fn send(reply: Reply, p: Packet, payload: &[u8], count: u32, out: &mut [u8]) -> Translating
-    ensures { λ r. ⌜ observation r (now (out .exit)) ≡ replying (record { reply = reply; packet = p; payload = now (payload .entry) }) count (now (out .entry)) ⌝ }
+// Writes a reply, if there is room. `visited` entries were read.
+fn send(reply: Reply, p: Packet, payload: &[u8], visited: u32, out: &mut [u8]) -> Translating
+    ensures { λ r. ⌜ observation r (now (out .exit)) ≡ replying (record { reply = reply; packet = p; payload = now (payload .entry) }) visited (now (out .entry)) ⌝ }
 {
     match tlp::write_packet(p, payload, out) {
         Writing::Written(n) => Translating::Replied(Report {
             reply,
             length: n,
-            count,
+            visited,
         }),
         Writing::Refused(r) => Translating::Refused(r),
     }
@@ -149,29 +149,36 @@ fn send_translation(
     h: Head,
     tag: Tag,
     x: Translation,
-    count: u32,
+    visited: u32,
     out: &mut [u8],
 ) -> Translating
-    ensures { λ r. ⌜ observation r (now (out .exit)) ≡ replying (translationReply host h tag x) count (now (out .entry)) ⌝ }
+    ensures { λ r. ⌜ observation r (now (out .exit)) ≡ replying (translationReply host h tag x) visited (now (out .entry)) ⌝ }
 {
     let payload = eight_bytes(tlp::word_of(x));
     let p = reply_packet(host, h, tag, Outcome::Data(2), 8, 120);
-    send(Reply::Successful, p, &payload, count, out)
+    send(Reply::Successful, p, &payload, visited, out)
 }
 
-fn send_status(host: u16, h: Head, tag: Tag, dwords: u16, count: u32, out: &mut [u8]) -> Translating
+fn send_status(
+    host: u16,
+    h: Head,
+    tag: Tag,
+    dwords: u16,
+    visited: u32,
+    out: &mut [u8],
+) -> Translating
     requires { ⌜ dwords ≤ 32 ⌝ }
-    ensures { λ r. ⌜ observation r (now (out .exit)) ≡ replying (statusReply host h tag dwords) count (now (out .entry)) ⌝ }
+    ensures { λ r. ⌜ observation r (now (out .exit)) ≡ replying (statusReply host h tag dwords) visited (now (out .entry)) ⌝ }
 {
     let none: [u8; 0] = [0; 0];
     let p = reply_packet(host, h, tag, Outcome::Status(4), 4 * dwords, 0);
-    send(Reply::CompleterAbort, p, &none, count, out)
+    send(Reply::CompleterAbort, p, &none, visited, out)
 }
 
 // Sends the reply that a walk gives.
 fn answer(host: u16, h: Head, t: TranslationRequest, w: Walk, out: &mut [u8]) -> Translating
     requires { ⌜ t .dwords ≤ 32 ⌝ }
-    ensures { λ r. ⌜ observation r (now (out .exit)) ≡ replying (replyTo host h t (w .end)) (w .count) (now (out .entry)) ⌝ }
+    ensures { λ r. ⌜ observation r (now (out .exit)) ≡ replying (replyTo host h t (w .end)) (w .visited) (now (out .entry)) ⌝ }
 {
     let end = w.end;
     let tag = t.tag;
@@ -181,11 +188,11 @@ fn answer(host: u16, h: Head, t: TranslationRequest, w: Walk, out: &mut [u8]) ->
             h,
             tag,
             translation_to(t.nowrite, m),
-            w.count,
+            w.visited,
             out,
         ),
-        End::Unmapped => send_translation(host, h, tag, null_translation(), w.count, out),
-        End::NotLent => send_status(host, h, tag, t.dwords, w.count, out),
+        End::Unmapped => send_translation(host, h, tag, null_translation(), w.visited, out),
+        End::NotLent => send_status(host, h, tag, t.dwords, w.visited, out),
     }
 }
 

@@ -45,16 +45,16 @@ level-below (suc n) b e = omega arith
 
 -- the rest of a walk after v entries
 abbrev pub after : ℕ → Walked → Walk
-after v w = record { end = w .end; count = v + length (w .visits) }
+after v w = record { end = w .end; visited = v + length (w .visits) }
 
-pub after-none : (v : ℕ) (e : End) → after v (endsIn e) ≡ record { end = e; count = v }
-after-none v e = ap (λ (n : ℕ). record { end = e; count = n }) (add-zero v)
+pub after-none : (v : ℕ) (e : End) → after v (endsIn e) ≡ record { end = e; visited = v }
+after-none v e = ap (λ (n : ℕ). record { end = e; visited = n }) (add-zero v)
 
 pub after-start : (w : Walked) → counted w ≡ after 0 w
-after-start w = ap (λ (n : ℕ). record { end = w .end; count = n }) (omega arith)
+after-start w = ap (λ (n : ℕ). record { end = w .end; visited = n }) (omega arith)
 
 pub after-one : (v k i : ℕ) (w : Walked) → after v (visiting k i w) ≡ after (v + 1) w
-after-one v k i w = ap (λ (n : ℕ). record { end = w .end; count = n }) (omega arith)
+after-one v k i w = ap (λ (n : ℕ). record { end = w .end; visited = n }) (omega arith)
 
 -- one turn of the walk, by what the entry says
 module _ (v n : ℕ) (entries : List ℕ) (a k : ℕ) (above : Rights) where
@@ -67,18 +67,18 @@ module _ (v n : ℕ) (entries : List ℕ) (a k : ℕ) (above : Rights) where
   abbrev rights : Rights
   rights = bothGrant above (rightsIn x)
 
-  pub not-lent : length entries < 512 * (k + 1) → rest ≡ record { end = NotLent; count = v }
+  pub not-lent : length entries < 512 * (k + 1) → rest ≡ record { end = NotLent; visited = v }
   not-lent h = rw (at-level n entries a k above, lt-leb (512 * (k + 1)) (length entries) h) (after-none v NotLent)
 
   module _ (h : 512 * (k + 1) ≤ length entries) where
     lent : isLent entries k ≡ true
     lent = le-leb (512 * (k + 1)) (length entries) h
 
-    pub grants-none : isNone (rightsIn x) ≡ true → rest ≡ record { end = Unmapped; count = v + 1 }
+    pub grants-none : isNone (rightsIn x) ≡ true → rest ≡ record { end = Unmapped; visited = v + 1 }
     grants-none e = rw (at-level n entries a k above, lent, e)
 
     module _ (e : isNone (rightsIn x) ≡ false) where
-      pub maps-page : (eqb n 0 || isLarge n x) ≡ true → rest ≡ record { end = Mapped (pageOf n x rights); count = v + 1 }
+      pub maps-page : (eqb n 0 || isLarge n x) ≡ true → rest ≡ record { end = Mapped (pageOf n x rights); visited = v + 1 }
       maps-page p = rw (at-level n entries a k above, lent, e, p)
 
       pub goes-on : (eqb n 0 || isLarge n x) ≡ false → rest ≡ after (v + 1) (walkFrom (n - 1) entries a (bits51To12 x) rights)

@@ -18,7 +18,7 @@ use Rattle.walk.specs.declared.Walk.{Walk}
 abbrev pub rightsIn : ℕ → Rights
 rightsIn x = record { r = eqb (x % 2) 1; w = bit x 1 }
 
--- the number of the next table, or of a page of 4096 bytes
+-- which table comes next, or which page of 4096 bytes is meant
 abbrev pub bits51To12 : ℕ → ℕ
 bits51To12 x = x / 4096 % 2 ^ 40
 
@@ -107,4 +107,4 @@ walked entries a = cond (leb (2 ^ 48) a) (endsIn Unmapped) (walkFrom 3 entries a
 
 -- the answer of the code: how the walk ends, and how many entries it read
 abbrev pub counted : Walked → Walk
-counted w = record { end = w .end; count = length (w .visits) }
+counted w = record { end = w .end; visited = length (w .visits) }

@@ -29,7 +29,7 @@ pub enum End {
 // How a walk ended, and how many table entries it read.
 pub struct Walk {
     pub end: End,
-    pub count: u32,
+    pub visited: u32,
 }
 
 // R in bit 0, W in bit 1.
@@ -42,7 +42,7 @@ fn rights_in(entry: u64) -> Rights
     }
 }
 
-// The number of the next table, or of a page of 4096 bytes.
+// Which table comes next, or which page of 4096 bytes is meant.
 fn bits_51_to_12(entry: u64) -> u64
     ensures { λ r. ⌜ (r ≡ bits51To12 entry) × (r < 2 ^ 40) ⌝ }
 {
@@ -125,35 +125,35 @@ pub fn walk_tables(entries: &[u64], address: u64) -> Walk
     if 0x1_0000_0000_0000 <= address {
         return Walk {
             end: End::Unmapped,
-            count: 0,
+            visited: 0,
         };
     }
-    let mut count: u32 = 0;
+    let mut visited: u32 = 0;
     let mut k: u64 = 0;
     let mut granted = Rights { r: true, w: true };
     loop {
         // One entry is read at each level.
-        let below = 3 - count;
+        let below = 3 - visited;
         if (entries.len() as u64) < 512 * (k + 1) {
             return Walk {
                 end: End::NotLent,
-                count,
+                visited,
             };
         }
         let entry = entries[(512 * k + index_at(below, address)) as usize];
         let own = rights_in(entry);
-        count += 1;
+        visited += 1;
         granted = both_grant(granted, own);
         if is_none(own) {
             return Walk {
                 end: End::Unmapped,
-                count,
+                visited,
             };
         }
         if is_page(below, entry) {
             return Walk {
                 end: End::Mapped(page_of(below, entry, granted)),
-                count,
+                visited,
             };
         }
         k = bits_51_to_12(entry);

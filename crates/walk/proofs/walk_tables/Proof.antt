@@ -9,11 +9,11 @@ use Rattle.walk.proofs.walk_tables.Statement.{statement}
 use Rattle.walk.proofs.walk_tables.Tie as tie
 
 abbrev Inv-loop : tie.InvT-loop
-Inv-loop entries address count₀ k₀ granted₀ count k granted =
-    (count ≤ 3) × (k < 2 ^ 40) × (counted (walked entries address) ≡ after count (walkFrom (3 - count) entries address k granted))
+Inv-loop entries address visited₀ k₀ granted₀ visited k granted =
+    (visited ≤ 3) × (k < 2 ^ 40) × (counted (walked entries address) ≡ after visited (walkFrom (3 - visited) entries address k granted))
 
 abbrev μ-loop : tie.MeasureT-loop
-μ-loop entries address count₀ k₀ granted₀ count k granted = 4 - count
+μ-loop entries address visited₀ k₀ granted₀ visited k granted = 4 - visited
 
 returns : tie.Need-returns Inv-loop μ-loop
 unfolding walked
@@ -33,7 +33,7 @@ mul-if2 : tie.Need-mul-if2 Inv-loop μ-loop
 mul-if2 c = search needs
 
 returns-2 : tie.Need-returns-2 Inv-loop μ-loop
-returns-2 c = let l = c .before .loop in sym (l .inv .2 ∙ not-lent (l .count) _ _ _ (l .k) (l .granted) (c .if2 .taken))
+returns-2 c = let l = c .before .loop in sym (l .inv .2 ∙ not-lent (l .visited) _ _ _ (l .k) (l .granted) (c .if2 .taken))
 
 mul-entry : tie.Need-mul-entry Inv-loop μ-loop
 mul-entry c = search needs
@@ -53,8 +53,8 @@ shared-slice-read-entry c = search needs
 rights-in-requires : tie.Need-rights-in-requires Inv-loop μ-loop
 rights-in-requires c κs = search needs
 
-add-count : tie.Need-add-count Inv-loop μ-loop
-add-count c = search needs
+add-visited : tie.Need-add-visited Inv-loop μ-loop
+add-visited c = search needs
 
 both-grant-requires : tie.Need-both-grant-requires Inv-loop μ-loop
 both-grant-requires c κs = search needs
@@ -67,7 +67,7 @@ returns-3 c =
     let at = c .before .before .before .before in
     let l = at .before .before .before .loop in
     let none = rw (at .before .index-at .ensures .0) at (ap isNone (sym (c .before .before .before .rights-in .ensures)) ∙ sym (c .before .is-none .ensures) ∙ c .if3 .taken) in
-    sym (l .inv .2 ∙ grants-none (l .count) _ _ _ (l .k) (l .granted) (at .before .before .if2 .left) none)
+    sym (l .inv .2 ∙ grants-none (l .visited) _ _ _ (l .k) (l .granted) (at .before .before .if2 .left) none)
 
 is-page-requires : tie.Need-is-page-requires Inv-loop μ-loop
 is-page-requires c κs = search needs
@@ -83,7 +83,7 @@ returns-4 c =
     let index = at .before .index-at .ensures .0 in
     let none = rw index at (ap isNone (sym own) ∙ sym (c .before .before .before .before .is-none .ensures) ∙ c .before .before .before .if3 .left) in
     let page = rw index at (sym (c .before .before .is-page .ensures) ∙ c .before .if4 .taken) in
-    rw (c .page-of .ensures, c .before .before .before .before .before .both-grant .ensures, own, index) (sym (l .inv .2 ∙ maps-page (l .count) _ _ _ (l .k) (l .granted) (at .before .before .if2 .left) none page))
+    rw (c .page-of .ensures, c .before .before .before .before .before .both-grant .ensures, own, index) (sym (l .inv .2 ∙ maps-page (l .visited) _ _ _ (l .k) (l .granted) (at .before .before .if2 .left) none page))
 
 bits-51-to-12-requires : tie.Need-bits-51-to-12-requires Inv-loop μ-loop
 bits-51-to-12-requires c κs = search needs
@@ -99,8 +99,8 @@ loop-again c =
     let index = at .before .index-at .ensures .0 in
     let none = rw index at (ap isNone (sym own) ∙ sym (c .before .before .before .before .is-none .ensures) ∙ c .before .before .before .if3 .left) in
     let page = rw index at (sym (c .before .before .is-page .ensures) ∙ c .before .if4 .left) in
-    let level : 3 - (l .count + 1) ≡ 3 - l .count - 1 = omega arith in
-    (omega (arith, level-below (3 - l .count) _ page), c .bits-51-to-12 .ensures .1, rw (level, c .bits-51-to-12 .ensures .0, c .before .before .before .before .before .both-grant .ensures, own, index) (l .inv .2 ∙ goes-on (l .count) _ _ _ (l .k) (l .granted) (at .before .before .if2 .left) none page))
+    let level : 3 - (l .visited + 1) ≡ 3 - l .visited - 1 = omega arith in
+    (omega (arith, level-below (3 - l .visited) _ page), c .bits-51-to-12 .ensures .1, rw (level, c .bits-51-to-12 .ensures .0, c .before .before .before .before .before .both-grant .ensures, own, index) (l .inv .2 ∙ goes-on (l .visited) _ _ _ (l .k) (l .granted) (at .before .before .if2 .left) none page))
 
 pub walk-tables-spec : {M : Type 1} → statement M
 walk-tables-spec =
@@ -120,7 +120,7 @@ walk-tables-spec =
     mul-entry-2
     shared-slice-read-entry
     rights-in-requires
-    add-count
+    add-visited
     both-grant-requires
     is-none-requires
     returns-3

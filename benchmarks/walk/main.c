@@ -168,7 +168,7 @@ int main(int argc, char **argv) {
     uint64_t sum = hold_together(all);
     printf("%zu walks, the same for each side; %d tables of %d entries. Best of %d runs.\n", count, TABLES, ENTRIES, runs);
     show_kinds(all);
-    printf("All sides gave the same ends, frames, exponents, rights and counts (sum %016llx).\n", (unsigned long long)sum);
+    printf("All sides gave the same ends, bases, exponents, rights and counts (sum %016llx).\n", (unsigned long long)sum);
     measure(all, runs);
     show_sides(all);
     show_nothing(all, runs);

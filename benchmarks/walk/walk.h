@@ -12,7 +12,7 @@ enum end { MAPPED, UNMAPPED, NOT_LENT };
 struct walk {
     enum end end;
     unsigned visits, exponent;
-    uint64_t frame;
+    uint64_t base;
     bool r, w;
 };
 
@@ -38,7 +38,7 @@ static inline uint64_t add_to(uint64_t sum, uint64_t number) { return (sum >> 1 
 
 static inline uint64_t pack_walk(struct walk x) {
     uint64_t visits = x.visits * 256;
-    if (x.end == MAPPED) return x.frame | x.exponent | x.r * 64 | x.w * 128 | visits;
+    if (x.end == MAPPED) return x.base | x.exponent | x.r * 64 | x.w * 128 | visits;
     return (x.end == NOT_LENT) * 2048 | visits;
 }
 

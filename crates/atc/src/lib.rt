@@ -1,5 +1,7 @@
 // The address translation cache: 32 slots of one unit each, and the hand that
 // selects the slot to replace.
+#![tactic(auto)]
+
 ghost use Rattle.std.specs.Prelude.{◌≡◌};
 ghost use Rattle.lemmas.specs.First.{first_index};
 ghost use Rattle.atc.specs.Cache.{no_entry, is_entry_of, is_free_slot, blank, emptied, slot_at, entry_at, found, filled_with, unit_dropped, entry_overlaps, slots_dropped, range_dropped};
@@ -7,7 +9,7 @@ ghost use Rattle.atc.specs.Cache.{no_entry, is_entry_of, is_free_slot, blank, em
 use ranges::Range;
 
 // One slot. In a free slot every other field is 0 or false.
-#[derive(Drop)]
+#[derive(Clone, Copy)]
 pub struct Entry {
     pub used: bool,
     pub r: bool,
@@ -18,13 +20,13 @@ pub struct Entry {
     pub to: u64,
 }
 
-#[derive(Drop)]
+#[derive(Clone, Copy)]
 pub struct Cache {
     hand: u32,
     slots: [Entry; 32],
 }
 
-#[derive(Drop)]
+#[derive(Clone, Copy)]
 pub enum Found {
     Hit(Entry),
     Miss,

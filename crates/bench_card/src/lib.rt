@@ -1,5 +1,7 @@
 // Replays a script of calls on the card, for benchmarks/card. A call is three numbers and a part of
 // a pool of bytes; benchmarks/card/script.h decodes them in the same way.
+#![tactic(auto)]
+
 mod sums;
 
 ghost use Rattle.std.specs.Prelude.{◌/◌, ◌<◌, ◌≤◌, length};
@@ -11,7 +13,7 @@ use state::{Effect, Function};
 use test_records::take;
 
 // `from` and `load` give the part of the pool that the call uses.
-#[derive(Drop)]
+#[derive(Clone, Copy)]
 struct Step {
     code: u8,
     flags: u8,

@@ -1,5 +1,7 @@
 // Walks for many addresses and translates many packets, for benchmarks/walk. Each result is one
 // number, and the sum is over these numbers; benchmarks/walk/walk.h packs and sums in the same way.
+#![tactic(auto)]
+
 ghost use Rattle.std.specs.Prelude.{◌/◌, ◌<◌, length};
 
 use translator::{Reply, Report, Translating};

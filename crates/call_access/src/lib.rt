@@ -1,4 +1,6 @@
 // Access: a read or write through the cache; and look-up, which computes its target.
+#![tactic(auto)]
+
 ghost use Rattle.std.specs.Prelude.{◌≡◌, ◌≤◌};
 ghost use Rattle.state.specs.Answers.{observed, commit};
 ghost use Rattle.call_access.specs.Access.{look_up_result, is_in_page, payload_length_for, is_allowed, target_of, through_found, looking_up, memory_request_packet, read_from, write_to, sends_access, accessing};
@@ -9,14 +11,14 @@ use state::{Answer, Effect, Function};
 use tags::FreeTag;
 
 // An access reads or writes.
-#[derive(Drop)]
+#[derive(Clone, Copy)]
 pub enum Direction {
     Read,
     Write,
 }
 
 // An access to a number of DWORDs at an address.
-#[derive(Drop)]
+#[derive(Clone, Copy)]
 pub struct AccessArgs {
     pub direction: Direction,
     pub address: u64,
@@ -24,13 +26,13 @@ pub struct AccessArgs {
 }
 
 // The target of an access: the address that is sent, and whether it is translated.
-#[derive(Drop)]
+#[derive(Clone, Copy)]
 pub struct Target {
     pub address: u64,
     pub translated: bool,
 }
 
-#[derive(Drop)]
+#[derive(Clone, Copy)]
 pub enum Goes {
     To(Target),
     Refused(Refusal),

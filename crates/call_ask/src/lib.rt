@@ -1,4 +1,6 @@
 // Ask: a Translation Request for some units.
+#![tactic(auto)]
+
 ghost use Rattle.std.specs.Prelude.{◌≡◌, ◌-◌, ◌≤◌};
 ghost use Rattle.state.specs.Answers.{observed, commit};
 ghost use Rattle.call_ask.specs.Ask.{translation_request_packet, is_unit_count, is_below_top, is_askable, ask_with_tag, ask_on, asking};
@@ -9,7 +11,7 @@ use tags::FreeTag;
 use translations::Rcb;
 
 // The arguments: the number of units from the one that holds an address on, and the No Write flag.
-#[derive(Drop)]
+#[derive(Clone, Copy)]
 pub struct AskArgs {
     pub address: u64,
     pub units: u16,

@@ -1,4 +1,6 @@
 // Page requests.
+#![tactic(auto)]
+
 ghost use Rattle.std.specs.Prelude.{◌≡◌, ◌||◌, []};
 ghost use Rattle.state.specs.State.{with_pages};
 ghost use Rattle.state.specs.Answers.{observed, commit, done, sends};

@@ -1,4 +1,6 @@
 // The call that receives a packet, and the payload that it returns.
+#![tactic(auto)]
+
 ghost use Rattle.std.specs.Prelude.{◌≡◌, [], eqb};
 ghost use Rattle.packet.specs.Numbers.{check};
 ghost use Rattle.state.specs.Answers.{observed, commit, answer_result};

@@ -1,4 +1,6 @@
 // Drain: one Invalidate Completion for the waiting ITags that no read delays.
+#![tactic(auto)]
+
 ghost use Rattle.std.specs.Prelude.{◌≡◌};
 ghost use Rattle.state.specs.Answers.{observed, commit};
 ghost use Rattle.call_send.specs.Drain.{agent_id, invalidate_completion_packet, ready_of, sends_vector, draining};

@@ -1,4 +1,6 @@
 // The public interface of the Function: every call, and one entry point for all of them.
+#![tactic(auto)]
+
 ghost use Rattle.std.specs.Prelude.{◌≡◌};
 ghost use Rattle.state.specs.Answers.{observed};
 ghost use Rattle.card.specs.Call.{step};
@@ -15,7 +17,7 @@ pub use state::{
 pub use translations::Rcb;
 
 // A call with its arguments. A received packet, or the payload of an access, is passed separately.
-#[derive(Drop)]
+#[derive(Clone, Copy)]
 pub enum Command {
     Reset(ResetArgs),
     Enable,

@@ -1,1 +1,2 @@
 // Lemmas that the proofs of many crates use. There is no code here.
+#![tactic(auto)]

@@ -1,4 +1,6 @@
 // The listing of lines of packets in hex.
+#![tactic(auto)]
+
 mod hex;
 mod lines;
 
@@ -13,7 +15,7 @@ use packet::{Packet, Reading, Refusal};
 
 // What a line holds: a packet; a refusal, which for too long a line is that of a too long packet;
 // or characters that are not bytes in hex.
-#[derive(Drop)]
+#[derive(Clone, Copy)]
 pub enum Line {
     Read(Packet),
     Refused(Refusal),
@@ -76,7 +78,7 @@ pub fn list_line(number: u64, line: &[u8], out: &mut [u8]) -> usize
 
 // The state between two blocks: the number of the unfinished line, and how many of its
 // characters are kept in `hold`.
-#[derive(Drop)]
+#[derive(Clone, Copy)]
 pub struct Progress {
     pub number: u64,
     pub held: usize,
@@ -91,7 +93,7 @@ pub fn start() -> Progress
 
 // The result of feeding a block: the next state, how many characters of the block were taken, and
 // how many bytes of output are ready at the start of `out`, to be written before the next call.
-#[derive(Drop)]
+#[derive(Clone, Copy)]
 pub struct Fed {
     pub progress: Progress,
     pub taken: usize,

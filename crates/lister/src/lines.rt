@@ -71,7 +71,7 @@ fn held_line(number: u64, held: usize, hold: &[u8], cs: &[u8], out: &mut [u8]) -
 
 // The result of listing whole lines: the number of the next line, how many characters the lines
 // have with their line feeds, and the end of their output.
-#[derive(Drop)]
+#[derive(Clone, Copy)]
 struct Whole {
     number: u64,
     taken: usize,
@@ -113,7 +113,7 @@ fn whole_lines(number: u64, cs: &[u8], out: &mut [u8], at: usize) -> Whole
 }
 
 // The result of a piece, as in `Fed`.
-#[derive(Drop)]
+#[derive(Clone, Copy)]
 pub(crate) struct Left {
     pub(crate) number: u64,
     pub(crate) held: usize,

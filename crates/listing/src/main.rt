@@ -2,6 +2,8 @@
 // read goes to `lister`, and what `lister` has ready is written. Its law `any_blocks` says that the
 // output is the listing of the whole input. Output is written after each read, so that a user who
 // types lines sees their listing at once.
+#![tactic(auto)]
+
 ghost use Rattle.std.specs.Prelude.{◌*◌, ◌≤◌, ◌≡◌, length};
 
 use libc::{STDIN_FILENO, STDOUT_FILENO};

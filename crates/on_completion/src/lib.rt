@@ -1,4 +1,6 @@
 // Completions for reads and for Translation Requests.
+#![tactic(auto)]
+
 ghost use Rattle.std.specs.Prelude.{◌≡◌, [], not, ◌&&◌};
 ghost use Rattle.state.specs.State.{with_tag, with_cache};
 ghost use Rattle.state.specs.Answers.{observed, commit};

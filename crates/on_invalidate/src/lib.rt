@@ -1,5 +1,7 @@
 // Invalidate Requests: overlapping entries are deleted, overlapping Translation Requests become
 // stale, overlapping translated reads delay the ITag.
+#![tactic(auto)]
+
 ghost use Rattle.std.specs.Prelude.{◌≡◌, []};
 ghost use Rattle.state.specs.Answers.{observed, commit};
 ghost use Rattle.on_invalidate.specs.Invalidate.{exponent_or64, invalidated_range, is_other_agent, invalidated_by, invalidated};

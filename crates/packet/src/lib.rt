@@ -1,24 +1,26 @@
 // Packets: Tag, ITag and PRG index, the seventeen refusals, the seven kinds, and the decoded
 // header. The definitions in specs/ relate bytes and packets.
+#![tactic(auto)]
+
 ghost use Rattle.std.specs.Prelude.{◌≡◌, ◌≤◌};
 ghost use Rattle.packet.specs.Numbers.{number_of};
 ghost use Rattle.packet.specs.Forms.{dword_count, byte_enables, payload_offset};
 ghost use Rattle.packet.specs.Kinds.{short_enough, even_and_short, codes_size, allowed_outcome, allowed_body};
 
 // The Tag of an outstanding request.
-#[derive(Drop)]
+#[derive(Clone, Copy)]
 pub struct Tag(pub u8);
 
 // The ITag of an Invalidate Request.
-#[derive(Drop)]
+#[derive(Clone, Copy)]
 pub struct ITag(pub u8);
 
 // The index of a page request group.
-#[derive(Drop)]
+#[derive(Clone, Copy)]
 pub struct PrgIndex(pub u16);
 
 // The seventeen refusals, in the order of their numbers.
-#[derive(Drop)]
+#[derive(Clone, Copy)]
 pub enum Refusal {
     BadLength,
     UnsupportedKind,
@@ -40,7 +42,7 @@ pub enum Refusal {
 }
 
 // The three Attr bits: ID-based ordering, Relaxed Ordering and No Snoop.
-#[derive(Drop)]
+#[derive(Clone, Copy)]
 pub struct Attr {
     pub ido: bool,
     pub relaxed: bool,
@@ -48,7 +50,7 @@ pub struct Attr {
 }
 
 // The fields that every kind has: Traffic Class, Attr and the sender's ID.
-#[derive(Drop)]
+#[derive(Clone, Copy)]
 pub struct Head {
     pub tc: u8,
     pub attr: Attr,
@@ -56,7 +58,7 @@ pub struct Head {
 }
 
 // Here and below, `dwords` is the Length field: a count of DWORDs, where 0 means 1024.
-#[derive(Drop)]
+#[derive(Clone, Copy)]
 pub struct TranslationRequest {
     pub tag: Tag,
     pub dwords: u16,
@@ -65,14 +67,14 @@ pub struct TranslationRequest {
 }
 
 // A write has no Tag.
-#[derive(Drop)]
+#[derive(Clone, Copy)]
 pub enum Access {
     Read(Tag),
     Write,
 }
 
 // `translated` is AT 10; otherwise AT is 00.
-#[derive(Drop)]
+#[derive(Clone, Copy)]
 pub struct MemoryRequest {
     pub access: Access,
     pub dwords: u16,
@@ -81,13 +83,13 @@ pub struct MemoryRequest {
 }
 
 // Data with this Length and status 000, or a status and no data.
-#[derive(Drop)]
+#[derive(Clone, Copy)]
 pub enum Outcome {
     Data(u16),
     Status(u8),
 }
 
-#[derive(Drop)]
+#[derive(Clone, Copy)]
 pub struct Completion {
     pub outcome: Outcome,
     pub count: u16,
@@ -97,7 +99,7 @@ pub struct Completion {
 }
 
 // Address and S as they are in the body. Together they encode the size.
-#[derive(Drop)]
+#[derive(Clone, Copy)]
 pub struct InvalidateRequest {
     pub itag: ITag,
     pub device: u16,
@@ -105,14 +107,14 @@ pub struct InvalidateRequest {
     pub sized: bool,
 }
 
-#[derive(Drop)]
+#[derive(Clone, Copy)]
 pub struct InvalidateCompletion {
     pub device: u16,
     pub cc: u8,
     pub vector: u32,
 }
 
-#[derive(Drop)]
+#[derive(Clone, Copy)]
 pub struct PageRequest {
     pub page: u64,
     pub index: PrgIndex,
@@ -121,7 +123,7 @@ pub struct PageRequest {
     pub read: bool,
 }
 
-#[derive(Drop)]
+#[derive(Clone, Copy)]
 pub struct PrgResponse {
     pub device: u16,
     pub code: u8,
@@ -129,7 +131,7 @@ pub struct PrgResponse {
 }
 
 // The seven kinds.
-#[derive(Drop)]
+#[derive(Clone, Copy)]
 pub enum Body {
     Tr(TranslationRequest),
     Mem(MemoryRequest),
@@ -140,14 +142,14 @@ pub enum Body {
     Prs(PrgResponse),
 }
 
-#[derive(Drop)]
+#[derive(Clone, Copy)]
 pub struct Packet {
     pub head: Head,
     pub body: Body,
 }
 
 // The packet forms. Byte 0 selects one; for a message byte 7 does.
-#[derive(Drop)]
+#[derive(Clone, Copy)]
 pub enum Form {
     Mrd32,
     Mrd64,
@@ -161,7 +163,7 @@ pub enum Form {
     PrgResp,
 }
 
-#[derive(Drop)]
+#[derive(Clone, Copy)]
 pub enum Choice {
     Listed(Form),
     Unlisted,
@@ -169,7 +171,7 @@ pub enum Choice {
 
 // The values of the bits that mean the same in every kind. `attr` is Attr as a number of three
 // bits, and `marks` is TD and EP.
-#[derive(Drop)]
+#[derive(Clone, Copy)]
 pub struct Common {
     pub tc: u8,
     pub attr: u8,
@@ -179,7 +181,7 @@ pub struct Common {
 
 // A decoded header, with the body of an Invalidate Request. Fields have the values of the bytes. A
 // field whose meaning depends on the kind is named by its position.
-#[derive(Drop)]
+#[derive(Clone, Copy)]
 pub struct Frame {
     pub byte0: u8,
     pub common: Common,
@@ -193,14 +195,14 @@ pub struct Frame {
 }
 
 // The result of reading: a packet, or a refusal.
-#[derive(Drop)]
+#[derive(Clone, Copy)]
 pub enum Reading {
     Read(Packet),
     Refused(Refusal),
 }
 
 // The result of writing: the packet's length, or a refusal.
-#[derive(Drop)]
+#[derive(Clone, Copy)]
 pub enum Writing {
     Written(usize),
     Refused(Refusal),

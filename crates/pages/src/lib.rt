@@ -1,10 +1,12 @@
 // The page request interface.
+#![tactic(auto)]
+
 ghost use Rattle.std.specs.Prelude.{◌≡◌, ◌≤◌};
 ghost use Rattle.pages.specs.Pages.{idle, switched_off, switched_on, stopped, is_index, is_waiting, requests_of, used_credits, is_spent, request_added, closed, with_groups};
 
 use packet::PrgIndex;
 
-#[derive(Drop)]
+#[derive(Clone, Copy)]
 pub enum Interface {
     Off,
     On,
@@ -13,14 +15,14 @@ pub enum Interface {
 
 // A group: how many of its page requests are outstanding, and whether the last one was sent, so
 // that it waits for its response.
-#[derive(Drop)]
+#[derive(Clone, Copy)]
 pub struct Group {
     pub waits: bool,
     pub requests: u16,
 }
 
 // Each outstanding request uses one credit of the allocation.
-#[derive(Drop)]
+#[derive(Clone, Copy)]
 pub struct Pages {
     pub interface: Interface,
     pub allocation: u16,

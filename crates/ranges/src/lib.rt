@@ -1,23 +1,25 @@
 // Sizes and ranges. A size is the exponent of a power of two and a range ends with its last byte,
 // so that 2^64 never has to fit.
+#![tactic(auto)]
+
 ghost use Rattle.std.specs.Prelude.{◌≡◌, cond, ◌-◌, ◌/◌, ◌*◌, ◌^◌, ◌≤◌, max};
 ghost use Rattle.ranges.specs.Size.{lowest_zero, size_at, size_of, base_of, translation_of, size_exponent, coded, coded_size, word_of};
 ghost use Rattle.ranges.specs.Range.{unit_exponent, unit_bytes, region_of, rounded_of, range_from, units_from, relocated, overlaps};
 
-#[derive(Drop)]
+#[derive(Clone, Copy)]
 pub enum Size {
     Exponent(u32),
     NoSize,
 }
 
-#[derive(Drop)]
+#[derive(Clone, Copy)]
 pub struct Range {
     pub first: u64,
     pub last: u64,
 }
 
 // An 8-byte translation: where its region begins, how large it is, and its bits N, U, W and R.
-#[derive(Drop)]
+#[derive(Clone, Copy)]
 pub struct Translation {
     pub base: u64,
     pub size: Size,

@@ -1,5 +1,7 @@
 // Reading a packet. The order of the refusals is here and in `order`; the kinds
 // are in `forms` and `fields`.
+#![tactic(auto)]
+
 mod fields;
 mod forms;
 mod nums;

@@ -1,4 +1,6 @@
 // The output line of a packet or of a refusal.
+#![tactic(auto)]
+
 mod put;
 mod words;
 

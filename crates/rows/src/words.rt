@@ -6,7 +6,7 @@ ghost use Rattle.rows.specs.Words.{letters_text, printed_label};
 use packet::{Access, Body};
 
 // Two letters, or three where the third is not 0.
-#[derive(Drop)]
+#[derive(Clone, Copy)]
 pub(crate) struct Letters {
     pub(crate) first: u8,
     pub(crate) second: u8,
@@ -14,7 +14,7 @@ pub(crate) struct Letters {
 }
 
 // A number is printed in decimal, and a vector in hex.
-#[derive(Drop)]
+#[derive(Clone, Copy)]
 pub(crate) enum Label {
     Number(u64),
     Vector(u32),

@@ -1,4 +1,6 @@
 // The Function: its state, what its calls answer, and the calls that neither send nor receive.
+#![tactic(auto)]
+
 ghost use Rattle.std.specs.Prelude.{◌≡◌, []};
 ghost use Rattle.state.specs.State.{head_of, fresh, with_enable, with_agent, with_waiting, with_cache, with_tags, with_pages, with_tag, is_rcb, rcb_of};
 ghost use Rattle.state.specs.Answers.{refused_with, without_packet, observed, commit};
@@ -11,14 +13,14 @@ use tags::{TagRow, TagState};
 use translations::Rcb;
 
 // The requester of Invalidate Requests, known from the first accepted one on.
-#[derive(Drop)]
+#[derive(Clone, Copy)]
 pub enum Agent {
     Unknown,
     Known(u16),
 }
 
 // The state of the Function. `waiting` has the ITags whose Invalidate Completion is still due.
-#[derive(Drop)]
+#[derive(Clone, Copy)]
 pub struct Function {
     pub id: u16,
     pub stu: u8,
@@ -32,7 +34,7 @@ pub struct Function {
 }
 
 // The answer of a call.
-#[derive(Drop)]
+#[derive(Clone, Copy)]
 pub enum Answer {
     Done,
     Opened(Tag),
@@ -49,7 +51,7 @@ pub enum Answer {
 }
 
 // The state after a call, its answer, and the length of the packet that it sent, or 0.
-#[derive(Drop)]
+#[derive(Clone, Copy)]
 pub struct Effect {
     pub state: Function,
     pub answer: Answer,
@@ -185,7 +187,7 @@ fn rcb_of(bytes: u8) -> Rcb
 }
 
 // The arguments of a reset.
-#[derive(Drop)]
+#[derive(Clone, Copy)]
 pub struct ResetArgs {
     pub id: u16,
     pub stu: u8,

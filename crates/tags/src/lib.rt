@@ -1,4 +1,6 @@
 // The 32 tags, and sets of ITags.
+#![tactic(auto)]
+
 pub mod itags;
 
 ghost use Rattle.std.specs.Prelude.{◌≡◌, map, ◌-◌, length};
@@ -12,7 +14,7 @@ use ranges::Range;
 // An outstanding Translation Request: its address, how many units beyond the first, the STU, and
 // whether it is stale. After the first of two packets also the exponent of the translations' size,
 // the Byte Count of both packets and the bytes due in the second; otherwise these are 0.
-#[derive(Drop)]
+#[derive(Clone, Copy)]
 pub struct PendingTranslation {
     pub address: u64,
     pub further: u8,
@@ -25,7 +27,7 @@ pub struct PendingTranslation {
 
 // An outstanding read: the untranslated address, its bytes and how many are still due, whether it
 // was sent with a translated address, and the ITags that it delays.
-#[derive(Drop)]
+#[derive(Clone, Copy)]
 pub struct PendingRead {
     pub address: u64,
     pub bytes: u16,
@@ -34,20 +36,20 @@ pub struct PendingRead {
     pub itags: u32,
 }
 
-#[derive(Drop)]
+#[derive(Clone, Copy)]
 pub enum TagState {
     Free,
     Translate(PendingTranslation),
     Read(PendingRead),
 }
 
-#[derive(Drop)]
+#[derive(Clone, Copy)]
 pub struct TagRow {
     pub state: TagState,
 }
 
 // The lowest free tag, if there is one.
-#[derive(Drop)]
+#[derive(Clone, Copy)]
 pub enum FreeTag {
     Lowest(Tag),
     NoneFree,

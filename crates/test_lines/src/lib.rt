@@ -1,4 +1,6 @@
 // Tests the packet layer on stored vectors: one line of output for each line of input.
+#![tactic(auto)]
+
 ghost use Rattle.std.specs.Prelude.{◌≤◌, ◌≡◌, length};
 
 use packet::{Packet, Reading, Writing};
@@ -28,7 +30,7 @@ pub fn line_length(text: &[u8]) -> usize
 
 // What a line decodes to: this many bytes; or nothing, if its length is odd, a character is not a
 // hex digit, or the bytes do not fit.
-#[derive(Drop)]
+#[derive(Clone, Copy)]
 pub enum Spelled {
     Bytes(usize),
     Nothing,

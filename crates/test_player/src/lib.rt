@@ -1,4 +1,6 @@
 // Plays scripts of calls on a Function: one line of output for each record of input.
+#![tactic(auto)]
+
 mod calls;
 
 use state::{Answer, Effect, Function};
@@ -6,7 +8,7 @@ use test_lines::Spelled;
 use test_records::{put, take};
 
 // The Function after a line, and the length of the output.
-#[derive(Drop)]
+#[derive(Clone, Copy)]
 struct Played {
     state: Function,
     at: usize,

@@ -1,5 +1,7 @@
 // Records of packets: bytes with the kind, TC, Attr, sender, a length, and the fields of the kind.
 // The test programs for stored vectors use them.
+#![tactic(auto)]
+
 pub mod put;
 pub mod take;
 

@@ -1,4 +1,6 @@
 // Writes the bytes of the state in hex, and computes their digest.
+#![tactic(auto)]
+
 ghost use Rattle.std.specs.Prelude.{◌≤◌};
 
 use atc::{Cache, Entry};

@@ -1,5 +1,7 @@
 // Plays scripts of tables and packets on the host's translator: one line of output for each record
 // of input.
+#![tactic(auto)]
+
 ghost use Rattle.std.specs.Prelude.{◌≡◌, length};
 
 use packet::Writing;
@@ -8,7 +10,7 @@ use test_records::{put, take};
 use translator::{Reply, Report, Translating};
 
 // How many entries the table has after a line, and the length of the output.
-#[derive(Drop)]
+#[derive(Clone, Copy)]
 struct Played {
     entries: usize,
     at: usize,

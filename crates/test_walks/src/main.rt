@@ -1,3 +1,5 @@
+#![tactic(auto)]
+
 fn main() {
     let mut input = test_lines::large_buffer();
     let mut output = test_lines::large_buffer();

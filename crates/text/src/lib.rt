@@ -1,4 +1,6 @@
 // Numbers as text: hex read in either case and written in upper case, decimal with no leading zero.
+#![tactic(auto)]
+
 mod table;
 
 ghost use Rattle.std.specs.Prelude.{◌≡◌, ◌<◌};
@@ -76,7 +78,7 @@ pub fn hex8(n: u32) -> [u8; 8]
 }
 
 // The digits of a number from index `start` on, with zeros before them.
-#[derive(Drop)]
+#[derive(Clone, Copy)]
 pub struct Numeral {
     pub digits: [u8; 20],
     pub start: usize,

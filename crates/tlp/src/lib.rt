@@ -1,5 +1,7 @@
 // The packet layer as the Function uses it. The code is in `ranges`, `packet`, `reader` and
 // `writer`; the laws are in proofs/.
+#![tactic(auto)]
+
 ghost use Rattle.std.specs.Prelude.{◌≡◌};
 ghost use Rattle.tlp.specs.Translations.{translation_at};
 

@@ -1,4 +1,6 @@
 // Completions with data for a Translation Request: classification, and updates of the cache.
+#![tactic(auto)]
+
 ghost use Rattle.std.specs.Prelude.{◌≡◌, cond, ◌-◌, ◌*◌, ◌≤◌, length};
 ghost use Rattle.ranges.specs.Range.{relocated};
 ghost use Rattle.translations.specs.Fits.{boundary, on_boundary, first_part, second_part, part_of, common_size, exponent_or0, size_is, begins_in, received_count, translation_fits, all_fit, size_fits, translations_fit, classified};
@@ -9,7 +11,7 @@ use ranges::{Range, Size, Translation};
 use tags::PendingTranslation;
 
 // The Read Completion Boundary.
-#[derive(Drop)]
+#[derive(Clone, Copy)]
 pub enum Rcb {
     B64,
     B128,
@@ -17,7 +19,7 @@ pub enum Rcb {
 
 // The class of a completion: it does not fit its request; it is the only packet and ends off the
 // boundary; it is the first of two; or it is the last.
-#[derive(Drop)]
+#[derive(Clone, Copy)]
 pub enum Part {
     Misfit,
     OffBoundary,

@@ -1,5 +1,7 @@
 // The public interface of the host: it takes a Translation Request and lent page tables, and sends
 // the reply.
+#![tactic(auto)]
+
 ghost use Rattle.std.specs.Prelude.{◌≡◌, true, ◌≤◌};
 ghost use Rattle.packet.specs.Frames.{eight_bytes};
 ghost use Rattle.packet.specs.Kinds.{allowed_body};
@@ -14,14 +16,14 @@ use walk::is_none;
 pub use walk::{End, Mapping, Rights, Walk, walk_tables};
 
 // The status of a reply: 000, with a translation; or 100.
-#[derive(Drop)]
+#[derive(Clone, Copy)]
 pub enum Reply {
     Successful,
     CompleterAbort,
 }
 
 // What was sent, its length in bytes, and the number of entries that the walk read.
-#[derive(Drop)]
+#[derive(Clone, Copy)]
 pub struct Report {
     pub reply: Reply,
     pub length: usize,
@@ -29,7 +31,7 @@ pub struct Report {
 }
 
 // The result of a call: a reply, or a refusal.
-#[derive(Drop)]
+#[derive(Clone, Copy)]
 pub enum Translating {
     Replied(Report),
     Refused(Refusal),

@@ -1,17 +1,19 @@
 // The page walk of the host's translator: four levels of tables of 512 entries in one lent slice.
+#![tactic(auto)]
+
 ghost use Rattle.std.specs.Prelude.{◌≡◌, ◌&&◌, ◌||◌, ◌^◌, ◌<◌, ◌≤◌, eqb};
 ghost use Rattle.walk.specs.Walk.{rights_in, bits51_to12, is_none, both_grant, covered_exponent, index_at, is_large, page_of, walked, counted};
 
 use ranges::region;
 
-#[derive(Drop)]
+#[derive(Clone, Copy)]
 pub struct Rights {
     pub r: bool,
     pub w: bool,
 }
 
 // A page of 2^exponent bytes, and the rights that every entry on the way to it grants.
-#[derive(Drop)]
+#[derive(Clone, Copy)]
 pub struct Mapping {
     pub base: u64,
     pub exponent: u32,
@@ -20,7 +22,7 @@ pub struct Mapping {
 
 // How a walk ends: with a page; with no page, because the address has more than 48 bits or an entry
 // grants neither right; or at a table that is not wholly lent.
-#[derive(Drop)]
+#[derive(Clone, Copy)]
 pub enum End {
     Mapped(Mapping),
     Unmapped,
@@ -28,7 +30,7 @@ pub enum End {
 }
 
 // How a walk ended, and how many table entries it read.
-#[derive(Drop)]
+#[derive(Clone, Copy)]
 pub struct Walk {
     pub end: End,
     pub visited: u32,

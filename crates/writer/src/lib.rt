@@ -1,5 +1,7 @@
 // Writing a packet. The order of the refusals is here; fields and frames are in
 // `limits` and `frames`.
+#![tactic(auto)]
+
 mod frames;
 mod limits;
 

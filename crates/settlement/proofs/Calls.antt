@@ -11,12 +11,12 @@ use Rattle.call_ask.proofs.ask.Reads as ask
 use Rattle.call_access.proofs.look_up.Reads as look_up
 use Rattle.call_access.proofs.access.Reads as access
 use Rattle.call_receive.proofs.receive.Reads as receive
-use Rattle.call_receive.proofs.payload_of.Reads as payload-of
+use Rattle.call_receive.proofs.payload_of.Reads as payload_of
 use Rattle.call_send.proofs.ready.Reads as ready
 use Rattle.call_send.proofs.drain.Reads as drain
-use Rattle.state.proofs.pages_on.Reads as pages-on
-use Rattle.state.proofs.pages_off.Reads as pages-off
-use Rattle.call_page.proofs.page_request.Reads as page-request
+use Rattle.state.proofs.pages_on.Reads as pages_on
+use Rattle.state.proofs.pages_off.Reads as pages_off
+use Rattle.call_page.proofs.page_request.Reads as page_request
 use Rattle.card.proofs.call.Reads as call
 
 pub new_settled : (κs : Lfts 0) (args : _) (x y : _) (e g : _) → new.Learnt κs args x e → new.Learnt κs args y g → x ≡ y
@@ -50,8 +50,8 @@ pub receive_settled : (κs : Lfts 1) (args : _) (x y : _) (e g : _) → receive.
     → receive.Learnt κs args y g → x ≡ y
 receive_settled κs args x y e g p q = (observed_injective x y [] [] (p ∙ sym q)).0
 
-pub payload_of_settled : (κs : Lfts 1) (args : _) (x y : _) (e g : _) → payload-of.Learnt κs args x e
-    → payload-of.Learnt κs args y g → x.now ≡ y.now
+pub payload_of_settled : (κs : Lfts 1) (args : _) (x y : _) (e g : _) → payload_of.Learnt κs args x e
+    → payload_of.Learnt κs args y g → x.now ≡ y.now
 payload_of_settled κs args x y e g p q = p ∙ sym q
 
 pub ready_settled : (κs : Lfts 0) (args : _) (x y : _) (e g : _) → ready.Learnt κs args x e → ready.Learnt κs args y g
@@ -62,16 +62,16 @@ pub drain_settled : (κs : Lfts 1) (args : _) (x y : _) (e g : _) → drain.Lear
     → (x ≡ y) × (e.1.0.now ≡ g.1.0.now)
 drain_settled κs args x y e g p q = observed_injective x y e.1.0.now g.1.0.now (p ∙ sym q)
 
-pub pages_on_settled : (κs : Lfts 0) (args : _) (x y : _) (e g : _) → pages-on.Learnt κs args x e
-    → pages-on.Learnt κs args y g → x ≡ y
+pub pages_on_settled : (κs : Lfts 0) (args : _) (x y : _) (e g : _) → pages_on.Learnt κs args x e
+    → pages_on.Learnt κs args y g → x ≡ y
 pages_on_settled κs args x y e g p q = (observed_injective x y [] [] (p ∙ sym q)).0
 
-pub pages_off_settled : (κs : Lfts 0) (args : _) (x y : _) (e g : _) → pages-off.Learnt κs args x e
-    → pages-off.Learnt κs args y g → x ≡ y
+pub pages_off_settled : (κs : Lfts 0) (args : _) (x y : _) (e g : _) → pages_off.Learnt κs args x e
+    → pages_off.Learnt κs args y g → x ≡ y
 pages_off_settled κs args x y e g p q = (observed_injective x y [] [] (p ∙ sym q)).0
 
-pub page_request_settled : (κs : Lfts 1) (args : _) (x y : _) (e g : _) → page-request.Learnt κs args x e
-    → page-request.Learnt κs args y g → (x ≡ y) × (e.1.1.0.now ≡ g.1.1.0.now)
+pub page_request_settled : (κs : Lfts 1) (args : _) (x y : _) (e g : _) → page_request.Learnt κs args x e
+    → page_request.Learnt κs args y g → (x ≡ y) × (e.1.1.0.now ≡ g.1.1.0.now)
 page_request_settled κs args x y e g p q = observed_injective x y e.1.1.0.now g.1.1.0.now (p ∙ sym q)
 
 pub call_settled : (κs : Lfts 2) (args : _) (x y : _) (e g : _) → call.Learnt κs args x e → call.Learnt κs args y g

@@ -2,18 +2,18 @@
 use mathlib.Core.Path.{◌≡◌, sym, ap, ◌∙◌}
 use contract.Lifetimes.{Lfts}
 use Rattle.lister.proofs.Injective.{line_result_injective}
-use Rattle.lister.proofs.read_line.Reads as read-line
-use Rattle.lister.proofs.list_line.Reads as list-line
+use Rattle.lister.proofs.read_line.Reads as read_line
+use Rattle.lister.proofs.list_line.Reads as list_line
 use Rattle.lister.proofs.start.Reads as start
 use Rattle.lister.proofs.feed.Reads as feed
 use Rattle.lister.proofs.finish.Reads as finish
 
-pub read_line_settled : (κs : Lfts 1) (args : _) (x y : _) (e g : _) → read-line.Learnt κs args x e
-    → read-line.Learnt κs args y g → x ≡ y
+pub read_line_settled : (κs : Lfts 1) (args : _) (x y : _) (e g : _) → read_line.Learnt κs args x e
+    → read_line.Learnt κs args y g → x ≡ y
 read_line_settled κs args x y e g p q = line_result_injective x y (p ∙ sym q)
 
-pub list_line_settled : (κs : Lfts 2) (args : _) (x y : _) (e g : _) → list-line.Learnt κs args x e
-    → list-line.Learnt κs args y g → (x ≡ y) × (e.1.1.0.now ≡ g.1.1.0.now)
+pub list_line_settled : (κs : Lfts 2) (args : _) (x y : _) (e g : _) → list_line.Learnt κs args x e
+    → list_line.Learnt κs args y g → (x ≡ y) × (e.1.1.0.now ≡ g.1.1.0.now)
 list_line_settled κs args x y e g p q = (ap (λ o. o.0) (p ∙ sym q), ap (λ o. o.1) (p ∙ sym q))
 
 pub start_settled : (κs : Lfts 0) (args : _) (x y : _) (e g : _) → start.Learnt κs args x e → start.Learnt κs args y g

@@ -1,14 +1,13 @@
 -- Demand 3 implies that from the arrival of an Invalidate Request on only new translations are used.
-use mathlib.Core.Path.{◌≡◌, refl, sym, ap, ◌∙◌}
-use mathlib.Core.Logic.{◌⊎◌, inl, inr, ⊎_elim}
+use mathlib.Core.Path.{◌≡◌, refl, ap}
+use mathlib.Core.Logic.{inl, inr}
 use mathlib.Core.Bool.{Bool, true, false, ◌||◌, or-true}
 use mathlib.Core.List.{List, [], ◌∷◌, ◌++◌, append-nil}
-use mathlib.Core.Option.{some}
 use Prim.Native.Nat.{ℕ}
 use Rattle.demand3.specs.Terms.{Terms}
 use Rattle.demand3.specs.Seen.{Ticket, Seen}
-use Rattle.demand3.specs.History.{reaches, brings}
-use Rattle.demand3.specs.Runs.{Observer, Machine, Bench, resets, seen, next, state_after, history, Unbroken, Run, arrival, end, CameFrom, Served}
+use Rattle.demand3.specs.History.{brings}
+use Rattle.demand3.specs.Runs.{Observer, Machine, Bench, seen, next, state_after, history, Unbroken, Run, arrival, end, CameFrom, Served}
 use Rattle.demand3.specs.Order.{Arrived, Beyond, Brought, OnlyNewTranslations}
 
 -- an entry that serves an overlapping access overlaps too

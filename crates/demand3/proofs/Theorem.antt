@@ -1,7 +1,7 @@
 -- The laws imply the third demand, for every machine.
 use mathlib.Core.Path.{◌≡◌, refl, sym, ap, ◌∙◌}
 use mathlib.Core.Logic.{◌⊎◌, inl, inr, ⊎_elim, ◌↔◌}
-use mathlib.Core.Bool.{Bool, true, false, not, cond, ◌&&◌, ◌||◌, and-false, or-true}
+use mathlib.Core.Bool.{Bool, true, false, not, cond, ◌&&◌, and-false}
 use mathlib.Core.List.{List, [], ◌∷◌, ◌++◌, append-nil}
 use mathlib.Core.Option.{Option, none, some}
 use Prim.Native.Nat.{ℕ, zero, suc, ◌+◌, ◌-◌, ◌<◌}
@@ -12,9 +12,9 @@ use lib.Dec.{eqb}
 use lib.ListN.{length, drop}
 use Rattle.demand3.specs.Terms.{Terms}
 use Rattle.demand3.specs.Seen.{Ticket, Taken, CPL, INV, DRAIN, Sent, TR, READ, WRITE, IC, Seen}
-use Rattle.demand3.specs.History.{Pending, translation, fetch, given, none_below, is_open, leaves, on_taken, on_sent, open_at, remains, read_in, uses, reaches, goes_direct, accepts, drains, completes, requests, completions, request_of, completion_of, requests_of, completions_of, agent_taken, agent_in, older, waits, waits_of, gave, brings}
-use Rattle.demand3.specs.Runs.{Observer, Machine, Bench, refuses, resets, packet, seen, next, state_after, history, Unbroken, Run, start, arrival, end, seen_at, later, earlier, Holds, CameFrom, Served}
-use Rattle.demand3.specs.Order.{Arrived, Completed, OnlyNewEntries, NoOldRead, Letter, Beyond, Starts, Order}
+use Rattle.demand3.specs.History.{Pending, translation, fetch, given, none_below, is_open, leaves, on_taken, on_sent, open_at, remains, read_in, uses, accepts, drains, completes, requests, completions, request_of, completion_of, requests_of, completions_of, agent_taken, agent_in, older, waits, waits_of, gave, brings}
+use Rattle.demand3.specs.Runs.{Observer, Machine, Bench, refuses, resets, packet, seen, next, state_after, history, Unbroken, Run, start, arrival, seen_at, later, earlier, Holds, CameFrom}
+use Rattle.demand3.specs.Order.{Arrived, OnlyNewEntries, NoOldRead, Letter, Beyond, Starts, Order}
 use Rattle.lemmas.proofs.Cases.{by_cases, either_case, and_both, never_both, is_false}
 use Rattle.lemmas.proofs.Bools.{no_tf, no_some, cond_same}
 use Rattle.demand3.proofs.Laws.{View, Step, HeldIn, ends, fills, Apart}

@@ -1,7 +1,7 @@
 -- What is encoded is decoded again.
 use mathlib.Core.Path.{◌≡◌, refl, sym, ap, ◌∙◌}
 use mathlib.Core.Bool.{Bool, true, false, cond}
-use Prim.Native.Nat.{ℕ, zero, suc, ◌+◌, ◌-◌, ◌*◌, ◌/◌, ◌%◌, ◌^◌, ◌<◌, ◌≤◌, min, max}
+use Prim.Native.Nat.{ℕ, suc, ◌+◌, ◌-◌, ◌*◌, ◌/◌, ◌%◌, ◌^◌, ◌<◌, ◌≤◌}
 use native.Mathlib.Nat.{add-zero, mul_assoc, min-eq_left, max-eq_right}
 use native.Mathlib.Numerals.{add-one}
 use native.Mathlib.Omega.{arith}
@@ -10,9 +10,9 @@ use lib.Dec.{eqb, ltb}
 use lib.Pow.{pow-add, pow_pos, pow_mono, shr-shr, high}
 use borrow.Author.Tests.{lt-ltb, le-ltb}
 use Rattle.lemmas.proofs.Powers.{region_lt}
-use Rattle.ranges.specs.declared.Size.TheVariants.{Exponent, NoSize}
+use Rattle.ranges.specs.declared.Size.TheVariants.{Exponent}
 use Rattle.ranges.specs.declared.Translation.{Translation}
-use Rattle.ranges.specs.Size.{bit, lowest_zero, size_of, base_of, translation_of, size_exponent, coded, coded_size, word_of}
+use Rattle.ranges.specs.Size.{bit, size_of, base_of, translation_of, coded, word_of}
 use Rattle.ranges.specs.Range.{region_of}
 use Rattle.ranges.proofs.Laws.{lowest_trailing, trailing_ones, size_of_page}
 

@@ -7,12 +7,12 @@ use native.Mathlib.Numerals.{add-one}
 use native.Mathlib.Omega.{arith}
 use native.Mathlib.Decide.{dec_le}
 use lib.Dec.{eqb, leb, ltb}
-use lib.Pow.{pow-add, pow_pos, pow_mono, shr-shr, high, low, mod-pow-add}
-use borrow.Author.Tests.{leb-true, le-leb, lt-ltb, ltb-true, ltb-false, eqb-true}
+use lib.Pow.{pow-add, pow_pos, shr-shr, mod-pow-add}
+use borrow.Author.Tests.{leb-true, le-leb, ltb-true, ltb-false, eqb-true}
 use Rattle.lemmas.proofs.Cases.{by_cases, and_both, impossible}
 use Rattle.ranges.specs.declared.Range.{Range}
 use Rattle.ranges.specs.declared.Size.TheVariants.{Exponent, NoSize}
-use Rattle.ranges.specs.Size.{bit, lowest_zero, size_of, base_of}
+use Rattle.ranges.specs.Size.{bit, lowest_zero, size_of}
 use Rattle.ranges.specs.Range.{region_in, region_of, rounded_of, overlaps}
 
 -- The search for the lowest zero bit, at bit b: it stops, goes on, or ends.

@@ -1,5 +1,4 @@
 use Rattle.packet.specs.Kinds.{allowed_body}
-use borrow.Author.Rules.{rules}
 use Rattle.packet.proofs.is_allowed.Goals as goal
 
 pub returns-in-Tr : goal.returns-in-Tr

@@ -1,8 +1,6 @@
-use Prim.Native.Nat.{◌+◌, ◌-◌, ◌^◌, ◌≤◌}
 use native.Mathlib.Omega.{arith}
 use Rattle.ranges.specs.Size.{coded}
 use Rattle.ranges.proofs.Codes.{coded_le}
-use borrow.Author.Rules.{rules}
 use Rattle.ranges.proofs.coded.Goals as goal
 
 pub overflow_add-result : goal.overflow_add-result

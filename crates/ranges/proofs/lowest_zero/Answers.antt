@@ -1,8 +1,6 @@
-use mathlib.Core.Path.{◌≡◌, refl, sym, ◌∙◌}
-use Prim.Native.Nat.{◌≤◌, ◌-◌}
+use mathlib.Core.Path.{sym, ◌∙◌}
 use native.Mathlib.Omega.{arith}
 use borrow.Author.Tests.{eq-eqb, ne_eqb}
-use Rattle.ranges.specs.Size.{lowest_zero}
 use Rattle.ranges.proofs.Laws.{zero_here, zero_step, zero_end}
 use borrow.Author.Rules.{rules}
 use Rattle.ranges.proofs.lowest_zero.Goals as goal

@@ -2,7 +2,6 @@ use Prim.Native.Nat.{◌-◌}
 use native.Mathlib.Omega.{arith}
 use lib.Pow.{pow_mono}
 use Rattle.lemmas.proofs.Powers.{one_shl}
-use borrow.Author.Rules.{rules}
 use Rattle.ranges.proofs.ones_below.Goals as goal
 
 pub overflow_sub-result-else-exponent-eq12 : goal.overflow_sub-result-else-exponent-eq12

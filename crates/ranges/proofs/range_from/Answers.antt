@@ -2,7 +2,6 @@ use Prim.Native.Nat.{◌+◌, ◌-◌, ◌^◌, ◌<◌}
 use native.Mathlib.Omega.{arith}
 use native.Mathlib.Nat.{min-eq_left, min-eq_right}
 use Rattle.ranges.specs.Range.{range_from}
-use borrow.Author.Rules.{rules}
 use Rattle.ranges.proofs.range_from.Goals as goal
 
 pub returns-then-top-first : goal.returns-then-top-first

@@ -1,9 +1,7 @@
 use native.Mathlib.Omega.{arith}
 use native.Mathlib.Nat.{min-eq_left, min-eq_right, le_of_lt, div-eq_of_lt}
-use lib.Pow.{pow_pos}
 use Rattle.lemmas.proofs.Powers.{one_shl, region_lt}
 use Rattle.ranges.specs.Range.{region_of}
-use borrow.Author.Rules.{rules}
 use Rattle.ranges.proofs.region.Goals as goal
 
 pub overflow_add-result : goal.overflow_add-result

@@ -1,7 +1,6 @@
 use mathlib.Core.Path.{sym}
 use native.Mathlib.Nat.{div-eq_of_lt, lt_of_lt_of_le}
 use lib.Pow.{pow_mono}
-use borrow.Author.Rules.{rules}
 use Rattle.ranges.proofs.region_number.Goals as goal
 
 pub returns-else-exponent-lt64 : goal.returns-else-exponent-lt64

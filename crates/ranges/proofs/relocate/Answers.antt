@@ -1,7 +1,6 @@
 use native.Mathlib.Omega.{arith}
 use Rattle.ranges.specs.Range.{relocated}
 use Rattle.ranges.proofs.Units.{region_first, relocated_lt}
-use borrow.Author.Rules.{rules}
 use Rattle.ranges.proofs.relocate.Goals as goal
 
 pub overflow_sub-result : goal.overflow_sub-result

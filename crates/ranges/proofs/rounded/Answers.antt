@@ -1,5 +1,4 @@
 use Rattle.ranges.specs.Range.{rounded_of}
-use borrow.Author.Rules.{rules}
 use Rattle.ranges.proofs.rounded.Goals as goal
 
 pub returns : goal.returns

@@ -1,7 +1,6 @@
 use mathlib.Core.Path.{sym}
 use Rattle.ranges.specs.Size.{size_of}
 use Rattle.ranges.proofs.Laws.{plain_size}
-use borrow.Author.Rules.{rules}
 use Rattle.ranges.proofs.size_of.Goals as goal
 
 pub returns-then-sized : goal.returns-then-sized

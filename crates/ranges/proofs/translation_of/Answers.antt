@@ -1,5 +1,4 @@
 use Rattle.ranges.specs.Size.{translation_of}
-use borrow.Author.Rules.{rules}
 use Rattle.ranges.proofs.translation_of.Goals as goal
 
 pub returns : goal.returns

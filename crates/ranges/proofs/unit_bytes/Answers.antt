@@ -3,7 +3,6 @@ use lib.Pow.{pow_pos, pow_mono}
 use Prim.Native.Nat.{◌+◌, ◌%◌, ◌<◌, ◌≤◌}
 use mathlib.Core.Path.{refl}
 use Rattle.lemmas.proofs.Powers.{one_shl}
-use borrow.Author.Rules.{rules}
 use Rattle.ranges.proofs.unit_bytes.Goals as goal
 
 pub returns : goal.returns

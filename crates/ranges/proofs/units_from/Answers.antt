@@ -1,7 +1,4 @@
-use native.Mathlib.Omega.{arith}
 use Rattle.ranges.specs.Range.{units_from}
-use Rattle.ranges.proofs.Units.{units_fit}
-use borrow.Author.Rules.{rules}
 use Rattle.ranges.proofs.units_from.Goals as goal
 
 pub returns : goal.returns

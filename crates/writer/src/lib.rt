@@ -46,14 +46,23 @@ fn encode_frame(f: Frame) -> [u8; 24]
     ]
 }
 
+// Copies `src` to the start of `dst`.
+fn copy(src: &[u8], dst: &mut [u8])
+    requires { length src.now ≤ length dst.old }
+    ensures { dst.new ≡ src.now ++ drop (length src.now) dst.old }
+{
+    let n = src.len();
+    dst[..n].copy_from_slice(src);
+}
+
 // Copies a front and a payload to the start of `out`.
 fn lay(front: &[u8], payload: &[u8], out: &mut [u8])
     requires { length front.now + length payload.now ≤ length out.old }
     ensures { out.new ≡ (front.now ++ payload.now) ++ drop (length (front.now ++ payload.now)) out.old }
 {
     let n = front.len();
-    bytes::copy(front, out);
-    bytes::copy(payload, &mut out[n..]);
+    copy(front, out);
+    copy(payload, &mut out[n..]);
 }
 
 // Writes the packet to the start of `out`.

@@ -1,11 +1,11 @@
 -- The laws of a cache that the layers above use, as one record; and a proof that this cache satisfies them.
-use Rattle.std.proofs.Common.{◌≡◌, ℕ, zero, suc, ◌+◌, ◌%◌, ◌^◌, ◌<◌, ◌≤◌, true, false, cond, eqb, ltb, ◌⊎◌, List, length, set, replicate, sym, refl, ap, ◌∙◌, inl, inr, ⊎_elim, le_refl, arith, length-set, get_or-set_same, ltb-false, ltb-true, lt-ltb, eq-eqb, eqb-true}
+use Rattle.std.proofs.Common.{◌≡◌, ℕ, zero, suc, ◌+◌, ◌%◌, ◌^◌, ◌<◌, ◌≤◌, true, false, cond, eqb, ltb, ◌⊎◌, List, length, replicate, sym, refl, ap, ◌∙◌, inl, inr, ⊎_elim, arith, length-set, get_or-set_same, ltb-false, ltb-true, lt-ltb, eq-eqb, eqb-true}
 use native.Mathlib.Decide.{dec_le}
 use lib.ListN.{length-map, get_or-eq_default, get_or-map}
 use lib.Seq.{set_out}
 use borrow.Author.Tests.{not-true}
 use Rattle.lemmas.proofs.Cases.{by_cases, and_both, never_both, is_false, impossible}
-use Rattle.lemmas.proofs.First.{first_holds, first_least, first_set, first_other, first_map}
+use Rattle.lemmas.proofs.First.{first_holds, first_least, first_other, first_map}
 use Rattle.lemmas.proofs.Maps.{set_or}
 use Rattle.ranges.specs.declared.Range.{Range}
 use Rattle.ranges.specs.Range.{unit_exponent, region_of, overlaps}

@@ -1,5 +1,5 @@
 -- Laws of the page request interface.
-use Rattle.std.proofs.Common.{◌≡◌, ℕ, ◌+◌, ◌%◌, ◌^◌, ◌<◌, ◌≤◌, Bool, true, false, List, length, set, refl, ◌∙◌, le_refl, arith, length-set, get_or-set_other, get_or-set_same, ltb-true, leb-false, leb-true}
+use Rattle.std.proofs.Common.{◌≡◌, ℕ, ◌+◌, ◌^◌, ◌<◌, ◌≤◌, Bool, true, false, List, length, set, refl, ◌∙◌, le_refl, arith, length-set, get_or-set_other, get_or-set_same, ltb-true, leb-false, leb-true}
 use Rattle.lemmas.proofs.Cases.{by_cases, either_case}
 use Rattle.lemmas.specs.Fold.{fold_map}
 use Rattle.lemmas.proofs.Fold.{sum_set}

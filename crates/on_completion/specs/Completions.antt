@@ -8,7 +8,7 @@ use Rattle.tags.specs.declared.TagState.{TagState}
 use Rattle.tags.specs.declared.TagState.TheVariants.{Free, Translate, Read}
 use Rattle.tags.specs.Tags.{tag_state}
 use Rattle.state.specs.declared.Function.{Function}
-use Rattle.state.specs.Answers.{tag, Success}
+use Rattle.state.specs.Answers.{Success}
 use Rattle.on_completion.specs.Reads.{on_read_data, on_read_status}
 use Rattle.on_completion.specs.Translations.{on_translation_data, on_translation_status}
 

@@ -1,5 +1,5 @@
 -- If the answer to a received packet is payload, the returned payload is the packet from byte 12 on.
-use mathlib.Core.Path.{◌≡◌, refl, ap}
+use mathlib.Core.Path.{◌≡◌, refl}
 use mathlib.Core.Bool.{true, false}
 use mathlib.Core.List.{List, []}
 use Prim.Native.Nat.{ℕ}
@@ -11,7 +11,7 @@ use Rattle.packet.specs.declared.Body.{Body}
 use Rattle.packet.specs.declared.Body.TheVariants.{Tr, Mem, Cpl, Inv, Ic, Prq, Prs}
 use Rattle.packet.specs.declared.InvalidateRequest.{InvalidateRequest}
 use Rattle.packet.specs.declared.PrgIndex.{PrgIndex}
-use Rattle.packet.specs.Numbers.{Result, ok, refusal, check}
+use Rattle.packet.specs.Numbers.{Result, ok, refusal}
 use Rattle.packet.specs.Reading.{reading, payload_in}
 use Rattle.tlp.specs.Bytes.{Bytes}
 use Rattle.tlp.proofs.Laws.{completion_payload}

@@ -30,7 +30,6 @@ use Rattle.state.proofs.Laws.{Does, does_nothing, does_refusal, does_send, commi
 use Rattle.call_page.specs.PageRequests.{with_request}
 use Rattle.on_completion.specs.Translations.{is_live}
 use Rattle.call_receive.specs.Responses.{group_answered}
-use Rattle.call_receive.specs.Receive.{received}
 use Rattle.card.specs.declared.Command.{Command}
 use Rattle.card.specs.declared.Command.TheVariants.{Receive}
 use Rattle.card.specs.Call.{calling, step}

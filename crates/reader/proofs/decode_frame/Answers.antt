@@ -1,5 +1,4 @@
 use Rattle.packet.specs.Frames.{decode_frame}
-use borrow.Author.Rules.{rules}
 use Rattle.reader.proofs.decode_frame.Goals as goal
 
 pub returns : goal.returns

@@ -1,6 +1,5 @@
 use Rattle.lemmas.proofs.Cases.{cases}
 use Rattle.packet.specs.Reading.{payload_in}
-use borrow.Author.Rules.{rules}
 use Rattle.reader.proofs.payload.Goals as goal
 
 pub returns-then-b-lt12 : goal.returns-then-b-lt12

@@ -1,6 +1,5 @@
 use Rattle.lemmas.proofs.Cases.{cases}
 use Rattle.packet.specs.Reading.{qword_at}
-use borrow.Author.Rules.{rules}
 use Rattle.reader.proofs.qword.Goals as goal
 
 pub returns-then-k-payload : goal.returns-then-k-payload

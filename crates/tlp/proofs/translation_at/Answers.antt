@@ -1,5 +1,4 @@
 use Rattle.tlp.specs.Translations.{translation_at}
-use borrow.Author.Rules.{rules}
 use Rattle.tlp.proofs.translation_at.Goals as goal
 
 pub returns : goal.returns

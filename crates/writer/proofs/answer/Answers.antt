@@ -1,6 +1,5 @@
 use Rattle.lemmas.proofs.Cases.{cases}
 use Rattle.packet.specs.Writing.{writing}
-use borrow.Author.Rules.{rules}
 use Rattle.writer.proofs.answer.Goals as goal
 
 pub returns-then-load-due : goal.returns-then-load-due

@@ -1,7 +1,4 @@
-use mathlib.Core.Path.{sym}
-use Rattle.writer.proofs.Copies.{front_length}
 use Rattle.packet.specs.Writing.{bytes_of}
-use borrow.Author.Rules.{rules}
 use Rattle.writer.proofs.put.Goals as goal
 
 pub returns : goal.returns

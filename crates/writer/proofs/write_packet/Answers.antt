@@ -1,7 +1,6 @@
 use mathlib.Core.Path.{sym, ◌∙◌, ap}
 use Rattle.packet.proofs.Laws.{accepted}
 use Rattle.packet.specs.Writing.{write_result}
-use borrow.Author.Rules.{rules}
 use Rattle.writer.proofs.write_packet.Goals as goal
 
 pub put-requires : goal.put-requires

@@ -1,5 +1,4 @@
 use Rattle.packet.specs.Kinds.{body_in}
-use borrow.Author.Rules.{rules}
 use Rattle.reader.proofs.fields.fields.Goals as goal
 
 pub returns-in-Mrd32 : goal.returns-in-Mrd32

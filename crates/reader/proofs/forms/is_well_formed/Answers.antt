@@ -1,5 +1,4 @@
 use Rattle.packet.specs.Kinds.{well_formed}
-use borrow.Author.Rules.{rules}
 use Rattle.reader.proofs.forms.is_well_formed.Goals as goal
 
 pub returns-in-Mrd32 : goal.returns-in-Mrd32

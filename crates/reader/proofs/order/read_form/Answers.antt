@@ -1,6 +1,5 @@
 use Rattle.lemmas.proofs.Cases.{cases}
 use Rattle.packet.specs.Reading.{read_form}
-use borrow.Author.Rules.{rules}
 use Rattle.reader.proofs.order.read_form.Goals as goal
 
 pub returns-then-n-expected : goal.returns-then-n-expected

@@ -1,5 +1,4 @@
 use Rattle.packet.specs.Kinds.{form_of}
-use borrow.Author.Rules.{rules}
 use Rattle.writer.proofs.frames.form_of.Goals as goal
 
 pub returns-in-Tr : goal.returns-in-Tr

@@ -1,6 +1,5 @@
 use Rattle.packet.specs.Kinds.{packet_frame}
 use mathlib.Core.Path.{refl}
-use borrow.Author.Rules.{rules}
 use Rattle.writer.proofs.frames.ic.Goals as goal
 
 pub returns : goal.returns

@@ -1,5 +1,4 @@
 use Rattle.packet.specs.Kinds.{packet_frame}
-use borrow.Author.Rules.{rules}
 use Rattle.writer.proofs.frames.inv.Goals as goal
 
 pub returns : goal.returns

@@ -1,5 +1,4 @@
 use Rattle.packet.specs.Kinds.{packet_frame, form_of}
-use borrow.Author.Rules.{rules}
 use Rattle.writer.proofs.frames.tr.Goals as goal
 
 pub returns : goal.returns

@@ -1,5 +1,4 @@
 use Rattle.packet.specs.Kinds.{body_in_range}
-use borrow.Author.Rules.{rules}
 use Rattle.writer.proofs.limits.is_body_in_range.Goals as goal
 
 pub returns-in-Tr : goal.returns-in-Tr

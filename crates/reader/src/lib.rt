@@ -57,6 +57,7 @@ fn decode_frame(b: &[u8]) -> Frame
 }
 
 // Reads a packet, or says with which refusal it is rejected.
+#[tactic(auto, using(lemmas::proofs::Cases::cases), unfolding(packet::specs::Reading::reading))]
 pub fn read_packet(b: &[u8]) -> Reading
     ensures { read_result result ≡ reading b.now }
 {

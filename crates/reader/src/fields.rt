@@ -129,6 +129,7 @@ fn prs(f: Frame) -> Body
 }
 
 // The body of a packet of form m.
+#[tactic(auto, unfolding(packet::specs::Kinds::body_in))]
 pub(crate) fn fields(m: Form, f: Frame) -> Body
     ensures { result ≡ body_in m f }
 {

@@ -7,6 +7,7 @@ ghost use Rattle.packet.specs.Kinds.{well_formed_mem, well_formed_read_request, 
 use packet::{Choice, Form, Frame, byte_enables, dword_count};
 
 // The form that byte 0 and byte 7 select.
+#[tactic(auto, using(lemmas::proofs::Cases::cases), unfolding(packet::specs::Forms::choose))]
 pub(crate) fn choice(byte0: u8, byte7: u8) -> Choice
     ensures { result ≡ choose byte0 byte7 }
 {
@@ -81,6 +82,7 @@ fn is_well_formed_64(f: Frame, rest: bool) -> bool
 }
 
 // Does the header have only values that its form allows?
+#[tactic(auto, unfolding(packet::specs::Kinds::well_formed))]
 pub(crate) fn is_well_formed(m: Form, f: Frame) -> bool
     ensures { result ≡ well_formed m f }
 {

@@ -39,6 +39,7 @@ fn decode_common(b: &[u8]) -> Common
     }
 }
 
+#[tactic(auto, unfolding(packet::specs::Frames::decode_frame))]
 fn decode_frame(b: &[u8]) -> Frame
     requires { 12 ≤ length b.now }
     ensures { result ≡ decode_frame b.now }
@@ -82,6 +83,7 @@ pub fn part_from(b: &[u8], n: usize) -> &[u8]
 }
 
 // The payload of a readable packet, without a copy.
+#[tactic(auto, using(lemmas::proofs::Cases::cases), unfolding(packet::specs::Reading::payload_in))]
 pub fn payload(b: &[u8]) -> &[u8]
     ensures { result.now ≡ payload_in b.now }
 {
@@ -95,6 +97,7 @@ pub fn payload(b: &[u8]) -> &[u8]
 }
 
 // QWORD k of a payload, or 0 past the last whole one.
+#[tactic(auto, using(lemmas::proofs::Cases::cases), unfolding(packet::specs::Reading::qword_at))]
 pub fn qword(payload: &[u8], k: usize) -> u64
     ensures { result ≡ qword_at payload.now k }
 {

@@ -6,6 +6,7 @@ use crate::{fields, forms};
 use packet::{Form, Frame, Packet, Reading, Refusal};
 
 // Reads a packet of form m and n bytes from its frame.
+#[tactic(auto, using(lemmas::proofs::Cases::cases), unfolding(packet::specs::Reading::read_form))]
 pub(crate) fn read_form(m: Form, f: Frame, n: usize) -> Reading
     ensures { read_result result ≡ read_form m f n }
 {

@@ -18,6 +18,7 @@ pub use reader::{part_from, payload, read_packet};
 pub use writer::write_packet;
 
 // Translation k of a payload.
+#[tactic(auto, unfolding(crate::specs::Translations::translation_at))]
 pub fn translation_at(payload: &[u8], k: usize) -> Translation
     ensures { result ≡ translation_at payload.now k }
 {

@@ -56,6 +56,7 @@ fn outcome_form(o: Outcome) -> Form
 }
 
 // The form of a packet; 64-bit only if the address needs it.
+#[tactic(auto, unfolding(packet::specs::Kinds::form_of))]
 pub(crate) fn form_of(body: Body) -> Form
     ensures { result ≡ form_of body }
 {
@@ -113,6 +114,7 @@ fn address_dword12(a: u64) -> u32
     }
 }
 
+#[tactic(auto, unfolding(packet::specs::Kinds::packet_frame, packet::specs::Kinds::form_of))]
 fn tr(common: Common, t: TranslationRequest) -> Frame
     ensures { result ≡ packet_frame common (Tr t) }
 {
@@ -139,6 +141,7 @@ fn access_tag(a: Access) -> u8
     }
 }
 
+#[tactic(auto, unfolding(packet::specs::Kinds::packet_frame, packet::specs::Kinds::form_of))]
 fn mem(common: Common, m: MemoryRequest) -> Frame
     ensures { result ≡ packet_frame common (Mem m) }
 {
@@ -174,6 +177,7 @@ fn outcome_status(o: Outcome) -> u8
     }
 }
 
+#[tactic(auto, unfolding(packet::specs::Kinds::packet_frame, packet::specs::Kinds::form_of))]
 fn cpl(common: Common, c: Completion) -> Frame
     ensures { result ≡ packet_frame common (Cpl c) }
 {
@@ -191,6 +195,7 @@ fn cpl(common: Common, c: Completion) -> Frame
     }
 }
 
+#[tactic(auto, unfolding(packet::specs::Kinds::packet_frame))]
 fn inv(common: Common, i: InvalidateRequest) -> Frame
     ensures { result ≡ packet_frame common (Inv i) }
 {
@@ -207,6 +212,7 @@ fn inv(common: Common, i: InvalidateRequest) -> Frame
     }
 }
 
+#[tactic(auto, unfolding(packet::specs::Kinds::packet_frame))]
 fn ic(common: Common, i: InvalidateCompletion) -> Frame
     ensures { result ≡ packet_frame common (Ic i) }
 {
@@ -223,6 +229,7 @@ fn ic(common: Common, i: InvalidateCompletion) -> Frame
     }
 }
 
+#[tactic(auto, unfolding(packet::specs::Kinds::packet_frame))]
 fn prq(common: Common, q: PageRequest) -> Frame
     ensures { result ≡ packet_frame common (Prq q) }
 {
@@ -244,6 +251,7 @@ fn prq(common: Common, q: PageRequest) -> Frame
     }
 }
 
+#[tactic(auto, unfolding(packet::specs::Kinds::packet_frame))]
 fn prs(common: Common, s: PrgResponse) -> Frame
     ensures { result ≡ packet_frame common (Prs s) }
 {

@@ -66,6 +66,7 @@ fn lay(front: &[u8], payload: &[u8], out: &mut [u8])
 }
 
 // Writes the packet to the start of `out`.
+#[tactic(auto, using(crate::proofs::Copies::front_length), unfolding(packet::specs::Writing::bytes_of))]
 fn put(p: Packet, payload: &[u8], out: &mut [u8])
     requires { payload_offset (form_of p.body) + length payload.now ≤ length out.old }
     ensures { out.new ≡ bytes_of p payload.now ++ drop (length (bytes_of p payload.now)) out.old }
@@ -88,6 +89,7 @@ fn check_room(n: usize, room: usize) -> Writing
 }
 
 // The result of writing, for a payload of `load` bytes and a buffer of `room` bytes.
+#[tactic(auto, using(lemmas::proofs::Cases::cases), unfolding(packet::specs::Writing::writing))]
 fn answer(p: Packet, load: usize, room: usize) -> Writing
     ensures { write_result result ≡ writing p load room }
 {

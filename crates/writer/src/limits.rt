@@ -19,6 +19,7 @@ fn is_outcome_in_range(o: Outcome) -> bool
     }
 }
 
+#[tactic(auto, unfolding(packet::specs::Kinds::body_in_range))]
 fn is_body_in_range(body: Body) -> bool
     ensures { result ≡ body_in_range body }
 {
@@ -65,6 +66,7 @@ fn outcome_payload_length(o: Outcome) -> usize
 }
 
 // The payload length that the packet must be given.
+#[tactic(auto, unfolding(packet::specs::Kinds::payload_length))]
 pub(crate) fn payload_length(body: Body) -> usize
     ensures { (result ≡ payload_length body) × (result ≤ 262140) }
 {

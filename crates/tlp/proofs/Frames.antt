@@ -266,11 +266,11 @@ module _ (x y z : ℕ) (hx : x / 16 % 8 * 16 + x / 4 % 2 * 4 ≡ x) (hy : y < 64
   abbrev attr : ℕ
   attr = x / 4 % 2 * 4 + y / 16 % 4
 
-  bytes12-is :
+  bytes12_is :
       (x / 16 % 8 % 8 * 16 + attr / 4 % 2 * 4 ≡ x)
       × (attr % 4 * 16 + y / 4 % 4 % 4 * 4 + (y % 4 * 256 + z) / 256 % 4 ≡ y)
       × ((y % 4 * 256 + z) % 256 ≡ z)
-  bytes12-is =
+  bytes12_is =
       let p : (y % 4 * 256 + z) / 256 ≡ y % 4 = omega arith in
       let q : attr / 4 % 2 ≡ x / 4 % 2 = omega arith in
       let r : attr % 4 ≡ y / 16 % 4 = omega arith in
@@ -289,7 +289,7 @@ halves_is x y h = (omega arith, omega arith)
 module _ (b : List ℕ) (h : Bytes b) (h1 : byte b 1 / 16 % 8 * 16 + byte b 1 / 4 % 2 * 4 ≡ byte b 1) (h2 : byte b 2 < 64) where
   encode_frame_full : encode_frame (full b) ≡ row 24 (byte b)
   encode_frame_full =
-      let p = bytes12-is (byte b 1) (byte b 2) (byte b 3) h1 h2 (h 3) in
+      let p = bytes12_is (byte b 1) (byte b 2) (byte b 3) h1 h2 (h 3) in
       let q = two_is (byte b 4) (byte b 5) (h 4) (h 5) in
       let x = halves_is (num32_at b 16) (num32_at b 20) (num32_lt b h 20) in
       let b8 = four_is (byte b 8) (byte b 9) (byte b 10) (byte b 11) (h 8) (h 9) (h 10) (h 11) in

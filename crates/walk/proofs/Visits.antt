@@ -1,7 +1,7 @@
 -- A walk reads at most four entries, in order, and depends on nothing else.
-use mathlib.Core.Path.{◌≡◌, refl, sym, ap, ◌∙◌}
-use mathlib.Core.Bool.{Bool, true, false, cond}
-use mathlib.Core.List.{List, [], ◌∷◌}
+use mathlib.Core.Path.{◌≡◌, refl, ap, ◌∙◌}
+use mathlib.Core.Bool.{cond}
+use mathlib.Core.List.{List}
 use Prim.Native.Nat.{ℕ, zero, suc, ◌+◌, ◌-◌, ◌*◌, ◌^◌, ◌≤◌}
 use native.Mathlib.Omega.{arith}
 use lib.Dec.{leb, lit≤}
@@ -9,7 +9,6 @@ use lib.ListN.{length}
 use borrow.Author.Tests.{leb-true}
 use Rattle.lemmas.proofs.Cases.{by_cases, either_case}
 use Rattle.walk.specs.declared.Rights.{Rights}
-use Rattle.walk.specs.declared.Mapping.{Mapping}
 use Rattle.walk.specs.declared.End.TheVariants.{Mapped, Unmapped}
 use Rattle.walk.specs.Walk.{Walked, rights_in, bits51_to12, all_rights, is_none, both_grant, is_lent, index_at, table_entry, is_large, ends_in, visiting, entry_read, page_of, walk_from, walked}
 use Rattle.walk.specs.Visits.{InOrder, SameMeaning, SameAt, OnlyVisitsMatter}

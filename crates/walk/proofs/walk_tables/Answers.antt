@@ -1,0 +1,44 @@
+use mathlib.Core.Path.{◌≡◌, sym, ap, ◌∙◌}
+use Prim.Native.Nat.{◌+◌, ◌-◌, ◌^◌}
+use native.Mathlib.Omega.{arith}
+use borrow.Author.Tests.{le-leb, lt-leb}
+use Rattle.walk.specs.Walk.{all_rights, is_none, walk_from, walked}
+use Rattle.walk.proofs.Laws.{after_start, level_below, not_lent, grants_none, maps_page, goes_on}
+use borrow.Author.Rules.{rules}
+use Rattle.walk.proofs.walk_tables.Goals as goal
+
+pub returns-then-address-ge281474976710656 : goal.returns-then-address-ge281474976710656
+unfolding walked
+returns-then-address-ge281474976710656 c = rw (le-leb (2 ^ 48) _ c.if-address-ge281474976710656.true)
+
+pub loop-k-init : goal.loop-k-init
+unfolding walked
+loop-k-init c = (search rules, search rules, rw (lt-leb (2 ^ 48) _ c.if-address-ge281474976710656.false) (after_start (walk_from 3 _ _ 0 all_rights)))
+
+pub returns-then-entries-k : goal.returns-then-entries-k
+returns-then-entries-k c = let l = c.loop-k in sym (l.invariant.2 ∙ not_lent l.visited _ _ _ l.k l.granted c.if-entries-k.true)
+
+pub returns-then-is_none : goal.returns-then-is_none
+returns-then-is_none c =
+    let l = c.loop-k in
+    let none = rw c.index_at.ensures.0 at (ap is_none (sym c.rights_in-own.ensures) ∙ sym c.is_none.ensures ∙ c.if-is_none.true) in
+    sym (l.invariant.2 ∙ grants_none l.visited _ _ _ l.k l.granted c.if-entries-k.false none)
+
+pub returns-then-is_page : goal.returns-then-is_page
+returns-then-is_page c =
+    let l = c.loop-k in
+    let own = c.rights_in-own.ensures in
+    let index = c.index_at.ensures.0 in
+    let none = rw index at (ap is_none (sym own) ∙ sym c.is_none.ensures ∙ c.if-is_none.false) in
+    let page = rw index at (sym c.is_page.ensures ∙ c.if-is_page.true) in
+    rw (c.page_of.ensures, c.both_grant-granted.ensures, own, index) (sym (l.invariant.2 ∙ maps_page l.visited _ _ _ l.k l.granted c.if-entries-k.false none page))
+
+pub loop-k-preserved : goal.loop-k-preserved
+loop-k-preserved c =
+    let l = c.loop-k in
+    let own = c.rights_in-own.ensures in
+    let index = c.index_at.ensures.0 in
+    let none = rw index at (ap is_none (sym own) ∙ sym c.is_none.ensures ∙ c.if-is_none.false) in
+    let page = rw index at (sym c.is_page.ensures ∙ c.if-is_page.false) in
+    let level : 3 - (l.visited + 1) ≡ 3 - l.visited - 1 = omega arith in
+    (omega (arith, level_below (3 - l.visited) _ page), c.bits_51_to_12-k.ensures.1, rw (level, c.bits_51_to_12-k.ensures.0, c.both_grant-granted.ensures, own, index) (l.invariant.2 ∙ goes_on l.visited _ _ _ l.k l.granted c.if-entries-k.false none page))

@@ -109,6 +109,7 @@ fn slot_of(slots: [Entry; 32], unit: u64) -> usize
     i
 }
 
+#[tactic(auto, using(lemmas::proofs::First::first_here, lemmas::proofs::First::first_step, lemmas::proofs::First::first_end))]
 fn lowest_free(slots: [Entry; 32]) -> usize
     ensures { result ≡ first_index is_free_slot slots }
 {
@@ -123,6 +124,7 @@ fn lowest_free(slots: [Entry; 32]) -> usize
 }
 
 // Finds the entry of a unit.
+#[tactic(auto, unfolding(crate::specs::Cache::found))]
 pub fn find(c: Cache, unit: u64) -> Found
     ensures { result ≡ found c unit }
 {
@@ -160,6 +162,7 @@ pub fn fill(mut c: Cache, e: Entry) -> Cache
 }
 
 // Deletes the entry of a unit.
+#[tactic(auto, unfolding(crate::specs::Cache::unit_dropped))]
 pub fn drop_unit(mut c: Cache, unit: u64) -> Cache
     ensures { result ≡ unit_dropped unit c }
 {

@@ -104,6 +104,7 @@ fn is_free_state(o: TagState) -> bool
 }
 
 // The lowest free tag.
+#[tactic(auto, using(lemmas::proofs::First::first_here, lemmas::proofs::First::first_step, lemmas::proofs::First::first_end), unfolding(crate::specs::Tags::free_tag))]
 pub fn lowest_free(tags: [TagRow; 32]) -> FreeTag
     ensures { result ≡ free_tag tags }
 {
@@ -120,6 +121,7 @@ pub fn lowest_free(tags: [TagRow; 32]) -> FreeTag
 }
 
 // The state of a tag. A tag above 31 is always free.
+#[tactic(auto, unfolding(crate::specs::Tags::tag_state))]
 pub fn tag_state(tags: [TagRow; 32], t: Tag) -> TagState
     ensures { result ≡ tag_state tags t }
 {

@@ -123,6 +123,7 @@ fn page_of(below: u32, entry: u64, rights: Rights) -> Mapping
 }
 
 // Walks the lent tables from table 0 on.
+#[tactic(auto, unfolding(crate::specs::Walk::walked))]
 pub fn walk_tables(entries: &[u64], address: u64) -> Walk
     ensures { result ≡ counted (walked entries.now address) }
 {

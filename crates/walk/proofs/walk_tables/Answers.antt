@@ -1,19 +1,9 @@
 use mathlib.Core.Path.{◌≡◌, sym, ap, ◌∙◌}
-use Prim.Native.Nat.{◌+◌, ◌-◌, ◌^◌}
+use Prim.Native.Nat.{◌+◌, ◌-◌}
 use native.Mathlib.Omega.{arith}
-use borrow.Author.Tests.{le-leb, lt-leb}
-use Rattle.walk.specs.Walk.{all_rights, is_none, walk_from, walked}
-use Rattle.walk.proofs.Laws.{after_start, level_below, not_lent, grants_none, maps_page, goes_on}
-use borrow.Author.Rules.{rules}
+use Rattle.walk.specs.Walk.{is_none}
+use Rattle.walk.proofs.Laws.{level_below, not_lent, grants_none, maps_page, goes_on}
 use Rattle.walk.proofs.walk_tables.Goals as goal
-
-pub returns-then-address-ge281474976710656 : goal.returns-then-address-ge281474976710656
-unfolding walked
-returns-then-address-ge281474976710656 c = rw (le-leb (2 ^ 48) _ c.if-address-ge281474976710656.true)
-
-pub loop-k-init : goal.loop-k-init
-unfolding walked
-loop-k-init c = (search rules, search rules, rw (lt-leb (2 ^ 48) _ c.if-address-ge281474976710656.false) (after_start (walk_from 3 _ _ 0 all_rights)))
 
 pub returns-then-entries-k : goal.returns-then-entries-k
 returns-then-entries-k c = let l = c.loop-k in sym (l.invariant.2 ∙ not_lent l.visited _ _ _ l.k l.granted c.if-entries-k.true)

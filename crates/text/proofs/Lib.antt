@@ -1,3 +1,4 @@
 pub mod Numerals
 pub mod Values
 pub mod Pairs
+pub mod Writing

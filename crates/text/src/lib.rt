@@ -85,6 +85,7 @@ pub struct Numeral {
 }
 
 // A number in decimal.
+#[tactic(auto, using(crate::proofs::Writing::held_last, crate::proofs::Writing::held_full))]
 pub fn decimal(n: u64) -> Numeral
     ensures { result ≡ numeral n }
 {

@@ -59,6 +59,7 @@ fn vector(out: &mut [u8], at: usize, n: u32) -> usize
     text(out, at, &digits)
 }
 
+#[tactic(auto, unfolding(crate::specs::Words::letters_text))]
 fn kind(out: &mut [u8], at: usize, k: Letters) -> usize
     requires { at + 3 ≤ length out.old }
     ensures laid { Laid at (letters_text k) out.old result out.new }

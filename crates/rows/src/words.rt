@@ -22,6 +22,7 @@ pub(crate) enum Label {
 }
 
 // The letters of a packet's kind.
+#[tactic(auto, unfolding(crate::specs::Words::letters_text))]
 pub(crate) fn letters_of(body: Body) -> Letters
     ensures { letters_text result ≡ kind_text body }
 {

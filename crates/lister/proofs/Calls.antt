@@ -1,5 +1,5 @@
 -- What a caller needs of a call: it stays within its buffers, and the next call finds what the last one kept.
-use Prim.Native.Nat.{ℕ, ◌≤◌, min}
+use Prim.Native.Nat.{ℕ, ◌≤◌}
 use mathlib.Core.Path.{◌≡◌, refl, ap}
 use mathlib.Core.Bool.{cond}
 use mathlib.Core.List.{List, ◌++◌}

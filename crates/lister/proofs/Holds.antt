@@ -73,6 +73,18 @@ pub finish_line : (from : Progress) (hold out p : List ℕ) → p ≡ start_in f
 unfolding finished
 finish_line from hold out p e h = rw (← e, last_line from.number p h)
 
+-- where s characters are kept
+pub finish_empty : (from : Progress) (hold out : List ℕ) (m s : ℕ) → s ≡ min m (length hold) → m ≡ min from.held 289
+    → s ≡ 0 → (0, out) ≡ finished from hold out
+finish_empty from hold out m s e f z =
+    finish_none from hold out (sym (start_is from.held hold m s f e) ∙ ap (λ (n : ℕ). take n hold) z)
+
+pub finish_held : (from : Progress) (hold out : List ℕ) (m s : ℕ) → s ≡ min m (length hold) → m ≡ min from.held 289
+    → s ≤ length hold → 0 < s → row_in (line_text from.number (take s hold)) out ≡ finished from hold out
+finish_held from hold out m s e f h p =
+    let long = length-take-le s hold h in
+    finish_line from hold out (take s hold) (start_is from.held hold m s f e) (omega arith)
+
 -- ---- a block
 
 pub fed_none : (from : Progress) (hold block out : List ℕ) (s : ℕ) → length hold < 289

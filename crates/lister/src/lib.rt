@@ -32,6 +32,7 @@ fn line_of(r: Reading) -> Line
 }
 
 // The content of a line whose first n bytes were decoded.
+#[tactic(auto, using(crate::proofs::Spelled::read_bytes, crate::proofs::Spelled::read_none), unfolding(crate::specs::Line::line_read))]
 pub(crate) fn read_run(line: &[u8], n: usize, bytes: &[u8]) -> Line
     requires { HexRun line.now n bytes.now }
     ensures { line_result result ≡ line_read line.now }
@@ -70,6 +71,7 @@ fn put_row(number: u64, line: Line, out: &mut [u8]) -> usize
 
 // Writes the output line of line `number` to the start of `out` and returns its length. An `out` of
 // fewer than 64 bytes, more than any line needs, is left unchanged.
+#[tactic(auto, unfolding(crate::specs::Line::line_text))]
 pub fn list_line(number: u64, line: &[u8], out: &mut [u8]) -> usize
     ensures { (result, out.new) ≡ row_in (line_text number line.now) out.old }
 {
@@ -131,6 +133,7 @@ pub fn feed(from: Progress, hold: &mut [u8], block: &[u8], out: &mut [u8]) -> Fe
 
 // Writes the output line of the last line, if the input does not end in a line
 // feed, as `list_line` does.
+#[tactic(auto, using(crate::proofs::Holds::finish_empty, crate::proofs::Holds::finish_held))]
 pub fn finish(from: Progress, hold: &[u8], out: &mut [u8]) -> usize
     ensures { (result, out.new) ≡ finished from hold.now out.old }
 {

@@ -1,6 +1,6 @@
 -- Laws of the translator.
-use mathlib.Core.Path.{◌≡◌, refl, sym, ap, ◌∙◌}
-use mathlib.Core.Bool.{Bool, true, false, cond}
+use mathlib.Core.Path.{◌≡◌, refl}
+use mathlib.Core.Bool.{true}
 use Prim.Native.Nat.{ℕ, zero, suc, ◌≤◌, ◌%◌}
 use native.Mathlib.Omega.{arith}
 use lib.Dec.{eqb, leb}
@@ -8,7 +8,7 @@ use borrow.Author.Tests.{leb-true, eqb-true, eqb-false}
 use Rattle.lemmas.proofs.Cases.{by_cases, and_both}
 use Rattle.packet.specs.declared.Body.TheVariants.{Tr}
 use Rattle.packet.specs.declared.TranslationRequest.{TranslationRequest}
-use Rattle.packet.specs.Kinds.{short_enough, even_and_short, allowed_body}
+use Rattle.packet.specs.Kinds.{short_enough, allowed_body}
 
 -- the Length of a request that may be read is 2 to 32
 pub few_dwords : (tc : ℕ) (t : TranslationRequest) → allowed_body tc (Tr t) ≡ true → (2 ≤ t.dwords) × (t.dwords ≤ 32)

@@ -1,14 +1,13 @@
 -- The reply reads back, and depends on the visited entries alone.
 use mathlib.Core.Path.{◌≡◌, refl, sym, ap, ◌∙◌}
-use mathlib.Core.Bool.{Bool, true, false, cond, not, ◌&&◌}
+use mathlib.Core.Bool.{Bool, true, false}
 use mathlib.Core.List.{List, [], ◌∷◌}
 use Prim.Native.Nat.{ℕ, ◌+◌, ◌*◌, ◌<◌, ◌≤◌, ◌^◌}
 use native.Mathlib.Omega.{arith}
 use lib.Dec.{ltb, lit≤}
-use lib.ListN.{length, take, drop}
+use lib.ListN.{length, take}
 use borrow.Author.Tests.{lt-ltb, eq-eqb}
 use Rattle.lemmas.proofs.Cases.{impossible, either_case, and-false}
-use Rattle.ranges.specs.declared.Size.TheVariants.{Exponent}
 use Rattle.ranges.specs.declared.Translation.{Translation}
 use Rattle.ranges.specs.Size.{word_of, translation_of}
 use Rattle.ranges.specs.Range.{region_of}

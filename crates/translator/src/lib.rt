@@ -188,6 +188,7 @@ fn answer(host: u16, h: Head, t: TranslationRequest, w: Walk, out: &mut [u8]) ->
     }
 }
 
+#[tactic(auto, using(crate::proofs::Laws::few_dwords), unfolding(crate::specs::Translator::translating_body))]
 fn translate_body(host: u16, h: Head, body: Body, entries: &[u64], out: &mut [u8]) -> Translating
     requires { allowed_body h.tc body ≡ true }
     ensures { observation result out.new ≡ translating_body host entries.now out.old h body }
@@ -205,6 +206,7 @@ fn translate_body(host: u16, h: Head, body: Body, entries: &[u64], out: &mut [u8
 
 // Replies to a Translation Request: `host` is the host's ID, `b` the bytes received, `entries` the
 // lent tables. The reply is at the start of `out`. A refused call leaves `out` unchanged.
+#[tactic(auto, unfolding(crate::specs::Translator::translating))]
 pub fn translate(host: u16, b: &[u8], entries: &[u64], out: &mut [u8]) -> Translating
     ensures { observation result out.new ≡ translating host b.now entries.now out.old }
 {

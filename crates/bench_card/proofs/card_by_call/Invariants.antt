@@ -1,0 +1,12 @@
+use mathlib.Core.Path.{◌≡◌, sym}
+use Prim.Native.Nat.{◌/◌, ◌-◌, ◌≤◌}
+use lib.ListN.{length}
+use lib.Seq.{length-take-le}
+use borrow.Author.Rules.{rules}
+use Rattle.bench_card.proofs.card_by_call.Given as goal
+
+abbrev pub invariant-loop-i : goal.invariant-loop-i
+invariant-loop-i l = (l.i ≤ length l.script / 3) × (length l.out ≡ length l.initial.out)
+
+abbrev pub decreases-loop-i : goal.decreases-loop-i
+decreases-loop-i l = length l.script / 3 - l.i

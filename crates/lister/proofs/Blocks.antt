@@ -1,21 +1,23 @@
 -- For any blocks, the output of a program is the listing of the input.
-use Prim.Native.Nat.{ℕ, ◌+◌, ◌-◌, ◌*◌, ◌/◌, ◌^◌, ◌≤◌, ◌<◌}
-use mathlib.Core.Path.{◌≡◌, refl, ◌∙◌}
+use Prim.Native.Nat.{ℕ, ◌+◌, ◌-◌, ◌*◌, ◌/◌, ◌^◌, ◌≤◌, ◌<◌, min}
+use mathlib.Core.Path.{◌≡◌, refl, ap, ◌∙◌}
 use mathlib.Core.Bool.{Bool, true, false, cond}
 use mathlib.Core.List.{List, [], ◌∷◌, ◌++◌, append-nil}
-use native.Mathlib.Nat.{min-eq_left}
+use native.Mathlib.Nat.{min-eq_left, min-le_right}
 use native.Mathlib.Omega.{arith}
 use lib.Dec.{eqb}
-use lib.ListN.{length, drop, length-append, length-drop, length-take}
+use lib.ListN.{length, take, drop, length-append, length-drop, length-take}
 use lib.Seq.{take_at, take_all}
 use borrow.Author.Tests.{le-ltb}
 use Rattle.rows.specs.Rows.{row_in}
 use Rattle.rows.proofs.Short.{out_line_short}
+use Rattle.rows.proofs.Laying.{laid_start, row_start}
 use Rattle.lister.specs.declared.Progress.{Progress}
+use Rattle.lister.specs.declared.Fed.{Fed}
 use Rattle.lister.specs.Line.{line_read, line_text}
 use Rattle.lister.specs.Stream.{printed, number_after, start_after, last_text, first289, concat}
-use Rattle.lister.specs.Pieces.{initial_progress, start_in, takes, left, fed, finished}
-use Rattle.lister.proofs.Cuts.{in_pieces, any_pieces}
+use Rattle.lister.specs.Pieces.{initial_progress, start_in, takes, left, left_of, fed, finished}
+use Rattle.lister.proofs.Cuts.{in_pieces, any_pieces, printed_cut, start_after_cut}
 use Rattle.lister.proofs.Calls.{start_kept}
 use Rattle.lister.specs.Blocks.{handed_out, AllAtMost, AnyBlocks}
 
@@ -61,11 +63,50 @@ takes_all k n room h m =
     let numbered : n ≤ 2 ^ 64 - 1 - k = omega arith in
     rw (min-eq_left few) (min-eq_left numbered)
 
+fed_long : (from : Progress) (hold b out : List ℕ) → 289 ≤ length hold
+    → fed from hold b out ≡ left_of from hold b out (takes from.number (length b) (length out))
+unfolding fed
+fed_long from hold b out h = rw (le-ltb (length hold) 289 h)
+
 pub fed_whole : (from : Progress) (hold b out : List ℕ) → 289 ≤ length hold → length b * 64 ≤ length out
     → from.number + length b < 2 ^ 64
     → fed from hold b out ≡ left from.number (start_in from.held hold) hold b out (length b)
 unfolding fed
 fed_whole from hold b out h room few = rw (le-ltb (length hold) 289 h, takes_all from.number (length b) (length out) room few, take_all (length b) b (omega arith))
+
+-- as many characters as are taken have a line number each
+taken_numbered : (k n room : ℕ) → n ≤ takes k n room → 0 < n → k + n < 2 ^ 64
+taken_numbered k n room h some =
+    let few : takes k n room ≤ 2 ^ 64 - 1 - k = min-le_right (min n (room / 64)) (2 ^ 64 - 1 - k) in
+    omega arith
+
+-- What a program knows of a call that took the whole block b, where the kept characters were those of the line's
+-- start p: the ready bytes, the next line's number, and its kept start.
+module _ (from : Progress) (hold b out p : List ℕ) (r : Fed) (h o : List ℕ) where
+  pub fed_all : (r, h, o) ≡ fed from hold b out → 289 ≤ length hold → length b * 64 ≤ length out → length b ≤ r.taken
+      → 0 < length b → start_in from.held hold ≡ first289 p
+      → (take r.ready o ≡ printed from.number p b)
+      × (r.progress.number ≡ number_after from.number b)
+      × (start_in r.progress.held h ≡ first289 (start_after p b))
+  fed_all e long room all some kept =
+      let f : fed from hold b out ≡ left_of from hold b out (takes from.number (length b) (length out)) = fed_long from hold b out long in
+      let t : r.taken ≡ takes from.number (length b) (length out) = ap (λ (x : Fed × List ℕ × List ℕ). x.0.taken) (e ∙ f) in
+      let few = taken_numbered from.number (length b) (length out) (omega arith) some in
+      let w = e ∙ fed_whole from hold b out long room few ∙ ap (λ (q : List ℕ). left from.number q hold b out (length b)) kept in
+      let s = start_after (first289 p) b in
+      let text = printed from.number (first289 p) b in (
+        ap (λ (x : Fed × List ℕ × List ℕ). take x.0.ready x.2) w ∙ take_at text (drop (length text) out) (length text) refl ∙ printed_cut from.number p b,
+        ap (λ (x : Fed × List ℕ × List ℕ). x.0.progress.number) w,
+        ap (λ (x : Fed × List ℕ × List ℕ). start_in x.0.progress.held x.1) w ∙ start_kept s hold ∙ start_after_cut p b,
+      )
+
+-- and of the call at the end
+pub finished_all : (from : Progress) (hold out : List ℕ) (n : ℕ) (o : List ℕ) → (n, o) ≡ finished from hold out
+    → 64 ≤ length out → take n o ≡ last_text from.number (start_in from.held hold)
+unfolding finished
+finished_all from hold out n o e room =
+    let text = last_text from.number (start_in from.held hold) in
+    laid_start text out n o (row_start text out n o room e)
 
 -- ---- every step
 

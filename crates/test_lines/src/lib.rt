@@ -1,10 +1,14 @@
 // Tests the packet layer on stored vectors: one line of output for each line of input.
 #![tactic(auto)]
 
-ghost use Rattle.std.specs.Prelude.{◌≤◌, ◌≡◌, length};
+ghost use Rattle.std.specs.Prelude.{◌<◌, ◌≤◌, ◌≡◌, length, take, IfOk};
+ghost use Rattle.std.specs.Io.{ReadsAtMost};
+ghost use Rattle.std.specs.Io.KnownBytes.{Consumes, IsAtEnd};
 
 use packet::{Packet, Reading, Writing};
 use ranges::{Size, Translation};
+use std::io;
+use std::io::{Read, Write};
 use test_records::{put, take};
 
 // A buffer for all that a test program reads or writes.
@@ -202,9 +206,31 @@ pub fn run(input: &[u8], out: &mut [u8]) -> usize {
     at
 }
 
+// Reads until the input ends or the buffer is full, and returns how many bytes were read.
+pub fn read_input<R: Read>(reader: &mut R, input: &mut [u8]) -> io::Result<usize>
+    ensures bound { ReadsAtMost result input.new }
+    ensures bytes { IfOk result (λ n. Consumes (R.remaining reader.old) (R.remaining reader.new) (take n input.new)) }
+    ensures end { IfOk result (λ n. n < length input.new → IsAtEnd (R.remaining reader.new)) }
+{
+    let mut done = 0;
+    while done < input.len() {
+        let n = reader.read(&mut input[done..])?;
+        if n == 0 {
+            return Ok(done);
+        }
+        done += n;
+    }
+    Ok(done)
+}
+
 // Answers the lines on standard input on standard output, as far as the buffers reach.
-pub fn serve(input: &mut [u8], output: &mut [u8]) {
-    let got = io::read_full(0, input);
+pub fn serve<R: Read, W: Write>(
+    reader: &mut R,
+    writer: &mut W,
+    input: &mut [u8],
+    output: &mut [u8],
+) -> io::Result<()> {
+    let got = read_input(reader, input)?;
     let made = run(&input[..got], output);
-    io::write_all(1, take::front(output, made));
+    writer.write_all(take::front(output, made))
 }

@@ -4,6 +4,8 @@
 mod calls;
 
 use state::{Answer, Effect, Function};
+use std::io;
+use std::io::{Read, Write};
 use test_lines::Spelled;
 use test_records::{put, take};
 
@@ -116,8 +118,13 @@ fn play(input: &[u8], out: &mut [u8]) -> usize {
 }
 
 // Plays the script on standard input and writes to standard output, as far as the buffers reach.
-pub fn serve(input: &mut [u8], output: &mut [u8]) {
-    let got = io::read_full(0, input);
+pub fn serve<R: Read, W: Write>(
+    reader: &mut R,
+    writer: &mut W,
+    input: &mut [u8],
+    output: &mut [u8],
+) -> io::Result<()> {
+    let got = test_lines::read_input(reader, input)?;
     let made = play(&input[..got], output);
-    io::write_all(1, take::front(output, made));
+    writer.write_all(take::front(output, made))
 }

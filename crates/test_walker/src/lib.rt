@@ -5,6 +5,8 @@
 ghost use Rattle.std.specs.Prelude.{◌≡◌, length};
 
 use packet::Writing;
+use std::io;
+use std::io::{Read, Write};
 use test_lines::Spelled;
 use test_records::{put, take};
 use translator::{Reply, Report, Translating};
@@ -151,9 +153,14 @@ fn longest_table() -> [u64; 4096]
 }
 
 // Plays the script on standard input and writes to standard output, as far as the buffers reach.
-pub fn serve(input: &mut [u8], output: &mut [u8]) {
+pub fn serve<R: Read, W: Write>(
+    reader: &mut R,
+    writer: &mut W,
+    input: &mut [u8],
+    output: &mut [u8],
+) -> io::Result<()> {
     let mut space = longest_table();
-    let got = io::read_full(0, input);
+    let got = test_lines::read_input(reader, input)?;
     let made = play(&input[..got], &mut space, output);
-    io::write_all(1, take::front(output, made));
+    writer.write_all(take::front(output, made))
 }

@@ -123,6 +123,7 @@ pub fn rounded(address: u64, exponent: u32, unit: u32) -> Range
 }
 
 // The range of `rest` + 1 bytes from `first` on, cut off at the top of the address space.
+#[tactic(auto, unfolding(crate::specs::Range::range_from))]
 pub fn range_from(first: u64, rest: u64) -> Range
     ensures { result ≡ range_from first rest }
 {

@@ -1,6 +1,5 @@
 use Prim.Native.Nat.{◌≤◌}
 use lib.ListN.{length}
-use borrow.Author.Rules.{rules}
 use Rattle.test_player.proofs.touched.Given as goal
 
 abbrev pub invariant-loop-n : goal.invariant-loop-n

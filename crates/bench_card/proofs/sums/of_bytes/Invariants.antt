@@ -1,7 +1,5 @@
-use mathlib.Core.Path.{◌≡◌}
 use Prim.Native.Nat.{◌-◌, ◌≤◌}
 use lib.ListN.{length}
-use borrow.Author.Rules.{rules}
 use Rattle.bench_card.proofs.sums.of_bytes.Given as goal
 
 abbrev pub invariant-loop-i : goal.invariant-loop-i

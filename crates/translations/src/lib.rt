@@ -37,6 +37,7 @@ pub fn boundary_bytes(rcb: Rcb) -> u16
     }
 }
 
+#[tactic(auto, unfolding(crate::specs::Fits::on_boundary))]
 fn is_on_boundary(rcb: Rcb, n: u32) -> bool
     ensures { result ≡ on_boundary rcb n }
 {
@@ -46,6 +47,7 @@ fn is_on_boundary(rcb: Rcb, n: u32) -> bool
     }
 }
 
+#[tactic(auto, using(lemmas::proofs::Cases::cases), unfolding(crate::specs::Fits::first_part))]
 fn first_part(rcb: Rcb, most: u16, count: u16, lower: u8, bytes: usize) -> Part
     ensures { result ≡ first_part rcb most count lower bytes }
 {
@@ -73,6 +75,7 @@ fn first_part(rcb: Rcb, most: u16, count: u16, lower: u8, bytes: usize) -> Part
     }
 }
 
+#[tactic(auto, using(lemmas::proofs::Cases::cases), unfolding(crate::specs::Fits::second_part))]
 fn second_part(due: u16, count: u16, lower: u8, bytes: usize) -> Part
     ensures { result ≡ second_part due count lower bytes }
 {
@@ -89,6 +92,7 @@ fn second_part(due: u16, count: u16, lower: u8, bytes: usize) -> Part
 }
 
 // The class by Byte Count, Lower Address and length, without the translations.
+#[tactic(auto, using(lemmas::proofs::Cases::cases), unfolding(crate::specs::Fits::part_of))]
 fn part_of(t: PendingTranslation, rcb: Rcb, count: u16, lower: u8, bytes: usize) -> Part
     ensures { result ≡ part_of t rcb count lower bytes }
 {
@@ -104,6 +108,7 @@ fn part_of(t: PendingTranslation, rcb: Rcb, count: u16, lower: u8, bytes: usize)
 }
 
 // The size that all translations of a request must have: that of the first.
+#[tactic(auto, using(lemmas::proofs::Cases::cases), unfolding(crate::specs::Fits::common_size))]
 fn common_size(t: PendingTranslation, payload: &[u8]) -> Size
     ensures { result ≡ common_size t payload.now }
 {
@@ -133,6 +138,7 @@ fn size_is(size: Size, e: u32) -> bool
 }
 
 // Does region k of 2^e bytes begin in the range? Region 0 holds the first byte of the range.
+#[tactic(auto, using(lemmas::proofs::Tests::sub_leb, lemmas::proofs::Tests::past_leb, ranges::proofs::Units::region_leb), unfolding(crate::specs::Fits::begins_in))]
 fn begins_in(range: Range, e: u32, k: u64) -> bool
     ensures { result ≡ begins_in range e k }
 {
@@ -145,6 +151,7 @@ fn begins_in(range: Range, e: u32, k: u64) -> bool
 }
 
 // How many translations came in the first of two packets.
+#[tactic(auto, unfolding(crate::specs::Fits::received_count))]
 fn received_count(t: PendingTranslation) -> u64
     ensures { (result ≡ received_count t) × (result ≤ 8191) }
 {
@@ -155,6 +162,7 @@ fn received_count(t: PendingTranslation) -> u64
     }
 }
 
+#[tactic(auto, using(lemmas::proofs::Cases::cases), unfolding(crate::specs::Fits::translation_fits))]
 fn translation_fits(range: Range, e: u32, k: u64, size: Size) -> bool
     ensures { result ≡ translation_fits range e k size }
 {
@@ -183,6 +191,7 @@ fn all_fit(range: Range, e: u32, before: u64, payload: &[u8]) -> bool
     true
 }
 
+#[tactic(auto, using(lemmas::proofs::Cases::cases), unfolding(crate::specs::Fits::size_fits))]
 fn size_fits(t: PendingTranslation, size: Size, payload: &[u8]) -> bool
     ensures { result ≡ size_fits t size payload.now }
 {
@@ -217,6 +226,7 @@ fn if_fits(t: PendingTranslation, payload: &[u8], part: Part) -> Part
 }
 
 // Classifies a completion, with its translations. Nothing changes.
+#[tactic(auto, unfolding(crate::specs::Fits::classified))]
 pub fn classify(t: PendingTranslation, rcb: Rcb, count: u16, lower: u8, payload: &[u8]) -> Part
     ensures { result ≡ classified t rcb count lower payload.now }
 {
@@ -262,6 +272,7 @@ fn allows_access(x: Translation) -> bool
 }
 
 // Stores the entry of a unit, or deletes it if the translation allows no access.
+#[tactic(auto, using(lemmas::proofs::Cases::cases), unfolding(crate::specs::Fills::unit_updated))]
 fn update_unit(c: Cache, x: Translation, e: u32, unit: u64) -> Cache
     ensures { result ≡ unit_updated x e unit c }
 {
@@ -274,6 +285,7 @@ fn update_unit(c: Cache, x: Translation, e: u32, unit: u64) -> Cache
 }
 
 // Updates a unit if one of the payload's translations covers it. `first` is the start of the range.
+#[tactic(auto, using(lemmas::proofs::Cases::cases), unfolding(crate::specs::Fills::updated_if_covered))]
 fn update_if_covered(c: Cache, first: u64, e: u32, before: u64, unit: u64, payload: &[u8]) -> Cache
     requires { first ≤ unit }
     ensures { result ≡ updated_if_covered first e before unit payload.now c }
@@ -291,6 +303,7 @@ fn update_if_covered(c: Cache, first: u64, e: u32, before: u64, unit: u64, paylo
 }
 
 // Updates unit j of a range, if the range has that many.
+#[tactic(auto, using(lemmas::proofs::Cases::cases, lemmas::proofs::Tests::over_ltb), unfolding(crate::specs::Fills::updated_at))]
 fn update_at(c: Cache, range: Range, stu: u8, e: u32, before: u64, j: u64, payload: &[u8]) -> Cache
     requires { j ≤ 15 }
     ensures { result ≡ updated_at range stu e before payload.now j c }

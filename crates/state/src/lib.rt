@@ -195,6 +195,7 @@ pub struct ResetArgs {
 }
 
 // Resets the Function to an ID, STU and RCB.
+#[tactic(auto, using(crate::proofs::Commits::commits), unfolding(crate::specs::Switches::resetting))]
 pub fn reset(f: Function, a: ResetArgs) -> Effect
     ensures { observed result [] ≡ commit f [] (resetting a) }
 {
@@ -210,6 +211,7 @@ pub fn reset(f: Function, a: ResetArgs) -> Effect
 }
 
 // Sets E. If it was clear, the cache is emptied and outstanding Translation Requests become stale.
+#[tactic(auto, using(crate::proofs::Commits::commits), unfolding(crate::specs::Switches::enabling))]
 pub fn enable(f: Function) -> Effect
     ensures { observed result [] ≡ commit f [] (enabling f) }
 {
@@ -227,6 +229,7 @@ pub fn enable(f: Function) -> Effect
 }
 
 // Clears E.
+#[tactic(auto, unfolding(crate::specs::Switches::disabling))]
 pub fn disable(f: Function) -> Effect
     ensures { observed result [] ≡ commit f [] (disabling f) }
 {
@@ -244,6 +247,7 @@ fn is_allocation(allocation: u16) -> bool
     }
 }
 
+#[tactic(auto, using(crate::proofs::Commits::commits), unfolding(crate::specs::Switches::switching_on))]
 fn switch_on(f: Function, allocation: u16) -> Effect
     ensures { observed result [] ≡ commit f [] (switching_on f allocation Interface.Off) }
 {
@@ -256,6 +260,7 @@ fn switch_on(f: Function, allocation: u16) -> Effect
 }
 
 // Switches the page interface on, with an allocation of credits.
+#[tactic(auto, unfolding(crate::specs::Switches::switching_on))]
 pub fn pages_on(f: Function, allocation: u16) -> Effect
     ensures { observed result [] ≡ commit f [] (switching_on f allocation f.pages.interface) }
 {
@@ -269,6 +274,7 @@ pub fn pages_on(f: Function, allocation: u16) -> Effect
 }
 
 // Switches the page interface off.
+#[tactic(auto, unfolding(crate::specs::Switches::switching_off))]
 pub fn pages_off(f: Function) -> Effect
     ensures { observed result [] ≡ commit f [] (switching_off f f.pages.interface) }
 {

@@ -51,8 +51,8 @@ status_in f = f.byte6 / 32
 abbrev pub at11 : Frame → Bool
 at11 f = (is_read_type f || is_write_type f) && eqb f.at 3
 
-abbrev pub at01_in_awrite : Frame → Bool
-at01_in_awrite f = is_write_type f && eqb f.at 1
+abbrev pub at01_in_a_write : Frame → Bool
+at01_in_a_write f = is_write_type f && eqb f.at 1
 
 abbrev pub tr_length : Frame → Bool
 tr_length f = is_tr f && (eqb (f.dwords % 2) 1 || above32 f.dwords)
@@ -86,7 +86,7 @@ no_size f = is_inv f && (eqb (f.body / 2048 % 2) 1 && eqb (f.body / 4096) 0xF_FF
 abbrev pub forbidden : Frame → Bool
 forbidden f =
     at11 f
-    || (at01_in_awrite f
+    || (at01_in_a_write f
     || (tr_length f
     || (length_above32 f
     || (other_byte7 f

@@ -28,6 +28,7 @@ fn with_due(mut r: PendingRead, due: u16) -> TagState
     TagState::Read(r)
 }
 
+#[tactic(auto, using(state::proofs::Commits::commits), unfolding(crate::specs::Reads::on_read_data))]
 fn on_read_data(f: Function, t: Tag, r: PendingRead, count: u16, bytes: usize) -> Effect
     ensures { observed result [] ≡ commit f [] (on_read_data f t r count bytes) }
 {
@@ -45,6 +46,7 @@ fn on_read_data(f: Function, t: Tag, r: PendingRead, count: u16, bytes: usize) -
     }
 }
 
+#[tactic(auto, using(state::proofs::Commits::commits), unfolding(crate::specs::Reads::on_read_status))]
 fn on_read_status(f: Function, t: Tag, status: u8) -> Effect
     ensures { observed result [] ≡ commit f [] (on_read_status f t status) }
 {
@@ -55,6 +57,7 @@ fn on_read_status(f: Function, t: Tag, status: u8) -> Effect
     }
 }
 
+#[tactic(auto, using(state::proofs::Commits::commits), unfolding(crate::specs::Translations::on_translation_status))]
 fn on_translation_status(f: Function, t: Tag, status: u8) -> Effect
     ensures { observed result [] ≡ commit f [] (on_translation_status f t status) }
 {
@@ -92,6 +95,7 @@ fn fill(f: Function, q: PendingTranslation, load: &[u8]) -> Function
 }
 
 // Takes the first of two packets, which fits.
+#[tactic(auto, using(state::proofs::Commits::commits), unfolding(crate::specs::Translations::applied_if_live))]
 fn take_first(f: Function, t: Tag, q: PendingTranslation, count: u16, load: &[u8]) -> Effect
     ensures { observed result [] ≡ commit f [] (on_translation_part f t q count load.now Part.First) }
 {
@@ -104,6 +108,7 @@ fn take_first(f: Function, t: Tag, q: PendingTranslation, count: u16, load: &[u8
 }
 
 // Takes the last packet, or the only one.
+#[tactic(auto, using(state::proofs::Commits::commits), unfolding(crate::specs::Translations::applied_if_live))]
 fn take_last(f: Function, t: Tag, q: PendingTranslation, count: u16, load: &[u8]) -> Effect
     ensures { observed result [] ≡ commit f [] (on_translation_part f t q count load.now Part.Last) }
 {
@@ -114,6 +119,7 @@ fn take_last(f: Function, t: Tag, q: PendingTranslation, count: u16, load: &[u8]
     }
 }
 
+#[tactic(auto, unfolding(crate::specs::Translations::on_translation_data))]
 fn on_translation_data(
     f: Function,
     t: Tag,
@@ -157,6 +163,7 @@ fn complete_read(f: Function, c: Completion, r: PendingRead, load: &[u8]) -> Eff
 }
 
 // Handles a completion, according to the state of its tag.
+#[tactic(auto, unfolding(crate::specs::Completions::completed))]
 pub fn complete(f: Function, c: Completion, load: &[u8]) -> Effect
     ensures { observed result [] ≡ commit f [] (completed f c load.now) }
 {

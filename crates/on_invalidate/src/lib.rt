@@ -20,6 +20,7 @@ fn exponent_or_64(size: Size) -> u32
 }
 
 // The range of an Invalidate Request, rounded up to the unit.
+#[tactic(auto, unfolding(crate::specs::Invalidate::invalidated_range))]
 fn invalidated_range(stu: u8, i: InvalidateRequest) -> Range
     ensures { result ≡ invalidated_range stu i }
 {
@@ -52,6 +53,7 @@ fn invalidate_by(f: Function, from: u16, i: InvalidateRequest) -> Function
 }
 
 // Handles an Invalidate Request from the agent `from`.
+#[tactic(auto, using(state::proofs::Commits::commits), unfolding(crate::specs::Invalidate::invalidated))]
 pub fn invalidate(f: Function, from: u16, i: InvalidateRequest) -> Effect
     ensures { observed result [] ≡ commit f [] (invalidated f from i) }
 {

@@ -106,6 +106,7 @@ fn through_found(direction: Direction, stu: u8, address: u64, entry: Found) -> G
 }
 
 // The target of an access with `load` bytes of payload, or why it is refused. Nothing changes.
+#[tactic(auto, using(lemmas::proofs::Cases::cases), unfolding(crate::specs::Access::looking_up))]
 pub fn look_up(f: Function, a: AccessArgs, load: usize) -> Goes
     ensures { look_up_result result ≡ looking_up f a load }
 {
@@ -143,6 +144,7 @@ fn memory_request_packet(id: u16, access: Access, dwords: u16, at: Target) -> Pa
     }
 }
 
+#[tactic(auto, unfolding(state::specs::Answers::sends))]
 fn read_from(
     f: Function,
     tag: Tag,
@@ -170,6 +172,7 @@ fn read_from(
     }
 }
 
+#[tactic(auto, unfolding(state::specs::Answers::sends))]
 fn write_to(f: Function, at: Target, dwords: u16, payload: &[u8], out: &mut [u8]) -> Effect
     ensures { observed result out.new ≡ commit f out.old (write_to f at dwords payload.now out.old) }
 {

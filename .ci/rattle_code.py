@@ -5,10 +5,12 @@ import glob
 import os
 import re
 
+from rattle_text import clauses, functions, used
+
 TOKEN = re.compile(r"""(?:\s+|//[^\n]*)*(?:(?P<text>b?"(?:\\.|[^"\\])*")|(?P<char>b'(?:\\.|[^'\\])')|(?P<num>0x[0-9A-Fa-f_]+|[0-9][0-9_]*)(?:u8|u16|u32|u64|usize)?
     |(?P<life>'\w+)|(?P<name>[A-Za-z_]\w*)|(?P<op><<=|>>=|\.\.=|::|->|=>|==|!=|<=|>=|&&|\|\||<<|>>|[-+*/%|&^]=|\.\.|[-+*/%&|^!=<>.,;:(){}\[\]\#@])|(?P<end>$))""", re.X)
-NOT_CODE = re.compile(r"^\s*(?:requires|ensures|pub ghost|ghost)\b.*$", re.M)
-ASKED = re.compile(r"⌜ (\w+) ([≤<]) (\w+) ⌝")
+NOT_CODE = re.compile(r"^ *(?:(?:requires|ensures)\b[^{\n]*\{|(?:pub )?ghost (?:use\b[^;]*;|.*$)|#!?\[[^\n]*\]$)", re.M)
+ASKED = re.compile(r"\(?(\w+) ([≤<]) (\w+)\)?")
 BITS = {"u8": 8, "u16": 16, "u32": 32, "u64": 64, "usize": 64}
 LEVELS = [["||"], ["&&"], ["==", "!=", "<", ">", "<=", ">="], ["|"], ["^"], ["&"], ["<<", ">>"], ["+", "-"], ["*", "/", "%"]]
 ESCAPES = {"n": 10, "t": 9, "r": 13, "0": 0, "\\": 92, "'": 39, '"': 34}
@@ -93,12 +95,25 @@ def kinds_in(node):
     return {node.kind}.union(*map(kinds_in, inside(node)))
 
 
+def only_code(text):
+    """The text of a file without clauses, ghost items and attributes of one line."""
+    kept, at = [], 0
+    while found := NOT_CODE.search(text, at):
+        kept.append(text[at:found.start()])
+        at, depth = found.end(), found[0].endswith("{")
+        while depth:
+            depth += (text[at] == "{") - (text[at] == "}")
+            at += 1
+    return "".join(kept) + text[at:]
+
+
 class Parser:
     """Reads the text of a file, word by word."""
 
     def __init__(self, text):
-        text = NOT_CODE.sub("", text)
-        self.text, self.words, self.k, self.uses = text, [], 0, {}
+        self.uses = {path[-1]: path for _, path in used(text)}
+        text = only_code(text)
+        self.text, self.words, self.k = text, [], 0
         at = 0
         while at < len(text):
             found = TOKEN.match(text, at)
@@ -175,15 +190,12 @@ class Parser:
         fns, types, consts = [], {}, {}
         while self.words[self.k][0] != "end":
             if self.took("#"):
+                self.took("!")
                 self.skip_braces("[", "]")
                 continue
             self.public()
             word = self.take()
-            if word == "use":
-                names = self.path()
-                self.uses[names[-1]] = names
-                self.skip_until(";")
-            elif word == "mod":
+            if word in ("use", "mod"):
                 self.skip_until(";")
             elif word == "const":
                 name = self.take()
@@ -365,6 +377,8 @@ class Parser:
                 if name == "len" and self.took("("):
                     self.take(")")
                     one = Node("len", at, one)
+                elif self.took("("):
+                    one = Node("method", at, one, name, self.listed(")", self.expression))
                 else:
                     one = Node("field", at, one, name)
             elif self.took("["):
@@ -459,6 +473,12 @@ class Parser:
         return self.condition(at) if self.took("if") else self.block()
 
 
+def asked(contract):
+    """The bounds on arguments that a contract's `requires` clauses ask for, each as a clause or a part of one: (low, sign, high)."""
+    parts = [part for kind, _, said in clauses(contract) if kind == "requires" for part in said.split(" × ")]
+    return [found.groups() for found in map(ASKED.fullmatch, parts) if found]
+
+
 class Crate:
     """The code of a crate, from its files' texts."""
 
@@ -468,10 +488,10 @@ class Crate:
             parser = Parser(text)
             fns, types, consts = parser.items(name)
             self.uses.update(parser.uses)
-            asked = dict(re.findall(r"fn (\w+)\b[^{]*?requires \{ ([^}]*) \}", text))
+            contracts = {name: contract for _, name, _, contract in functions(text)}
             for fn in fns:
                 fn.module = os.path.basename(file)[:-3]
-                fn.asks = ASKED.findall(asked.get(fn.name, ""))
+                fn.asks = asked(contracts.get(fn.name, ""))
                 self.fns.setdefault(fn.name, []).append(fn)
             self.types.update(types)
             self.consts.update(consts)

@@ -35,12 +35,9 @@ class Fn:
         self.asks, self.module, self.plain = [], "", None
         self.ends = [trail for trail, _ in trails(body)] if body else []
 
-    def part_at(self, end):
-        """The part of the proof that is about an end of the function, or None."""
-        if end not in self.ends:
-            return None
-        k = self.ends.index(end) + 1
-        return "returns" if k == 1 else "returns-%d" % k
+    def goal_at(self, end, goals):
+        """Of the goals at the returns, in the order of the code, the one that is about an end of the function; or None."""
+        return goals[self.ends.index(end)] if end in self.ends else None
 
 
 def trails(node):

@@ -30,6 +30,7 @@ fn is_unit_count(rcb: Rcb, units: u16) -> bool
 }
 
 // Do the units from the one that holds an address on end at or below 2^64?
+#[tactic(auto, using(lemmas::proofs::Tests::room_leb, ranges::proofs::Units::region_lt_top, ranges::proofs::Units::some_bytes), unfolding(crate::specs::Ask::is_below_top))]
 fn is_below_top(stu: u8, address: u64, units: u16) -> bool
     requires { 1 ≤ units }
     ensures { result ≡ is_below_top stu address units }
@@ -39,6 +40,7 @@ fn is_below_top(stu: u8, address: u64, units: u16) -> bool
     bytes - 1 <= 0xFFFF_FFFF_FFFF_FFFF - first
 }
 
+#[tactic(auto, using(lemmas::proofs::Cases::cases), unfolding(crate::specs::Ask::is_askable))]
 fn is_askable(rcb: Rcb, stu: u8, a: AskArgs) -> bool
     ensures { result ≡ is_askable rcb stu a }
 {
@@ -72,6 +74,7 @@ fn further(units: u16) -> u8
     if units == 0 { 0 } else { (units - 1) as u8 }
 }
 
+#[tactic(auto, unfolding(state::specs::Answers::sends))]
 fn ask_with_tag(f: Function, tag: Tag, a: AskArgs, out: &mut [u8]) -> Effect
     requires { a.units ≤ 16 }
     ensures { observed result out.new ≡ commit f out.old (ask_with_tag f tag a out.old) }
@@ -103,6 +106,7 @@ fn ask_on(f: Function, free: FreeTag, a: AskArgs, out: &mut [u8]) -> Effect
 }
 
 // Sends a Translation Request.
+#[tactic(auto, using(state::proofs::Commits::commits, crate::proofs::AskLaws::few_units), unfolding(crate::specs::Ask::asking))]
 pub fn ask(f: Function, a: AskArgs, out: &mut [u8]) -> Effect
     ensures { observed result out.new ≡ commit f out.old (asking f a out.old) }
 {

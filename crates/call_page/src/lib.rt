@@ -48,6 +48,7 @@ fn with_request(p: Pages, q: PageRequest) -> Pages
     pages::with_groups(p, next)
 }
 
+#[tactic(auto, unfolding(state::specs::Answers::sends))]
 fn send_page(f: Function, q: PageRequest, out: &mut [u8]) -> Effect
     ensures { observed result out.new ≡ commit f out.old (sends (with_pages f (with_request f.pages q)) done (page_request_packet f.id q) [] out.old) }
 {
@@ -68,6 +69,7 @@ fn send_page(f: Function, q: PageRequest, out: &mut [u8]) -> Effect
     }
 }
 
+#[tactic(auto, using(state::proofs::Commits::commits), unfolding(crate::specs::PageRequests::requesting_on))]
 fn request_page(f: Function, q: PageRequest, out: &mut [u8]) -> Effect
     ensures { observed result out.new ≡ commit f out.old (requesting_on f q out.old) }
 {

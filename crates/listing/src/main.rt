@@ -1,7 +1,8 @@
 // Lists the packets on standard input, one per line in hex, on standard output. Each block that is
 // read goes to `lister`, and what `lister` has ready is written. Its law `any_blocks` says that the
-// output is the listing of the whole input, and so does the contract of `list_all`. Output is
-// written after each read, so that a user who types lines sees their listing at once.
+// output is the listing of the whole input; the contract of `list_all` says so of a reader and a
+// writer whose bytes are known. Output is written after each read, so that a user who types lines
+// sees their listing at once.
 #![tactic(auto)]
 
 ghost use Rattle.std.specs.Prelude.{◌*◌, ◌<◌, ◌≤◌, ◌≡◌, length, OnOk};

@@ -21,6 +21,7 @@ fn close_group(p: Pages, k: PrgIndex) -> Pages
     pages::with_groups(p, left)
 }
 
+#[tactic(auto, using(state::proofs::Commits::commits), unfolding(crate::specs::Responses::responded_on))]
 fn answer_group(f: Function, code: u8, k: PrgIndex) -> Effect
     ensures { observed result [] ≡ commit f [] (responded_on f code k) }
 {
@@ -81,6 +82,7 @@ fn take_response(f: Function, s: PrgResponse) -> Effect
     }
 }
 
+#[tactic(auto, unfolding(crate::specs::Receive::taken))]
 fn take(f: Function, from: u16, load: &[u8], body: Body) -> Effect
     ensures { observed result [] ≡ commit f [] (taken f from load.now body) }
 {
@@ -96,6 +98,7 @@ fn take(f: Function, from: u16, load: &[u8], body: Body) -> Effect
 }
 
 // Receives a packet. The bytes can be anything.
+#[tactic(auto, unfolding(crate::specs::Receive::received))]
 pub fn receive(f: Function, b: &[u8]) -> Effect
     ensures { observed result [] ≡ commit f [] (received f b.now) }
 {
@@ -130,6 +133,7 @@ fn is_payload(a: Answer) -> bool
 
 // The payload to return after `receive` of these bytes gave this answer: the packet's payload if it
 // was a completion with data for a read, otherwise empty.
+#[tactic(auto, using(lemmas::proofs::Cases::cases), unfolding(crate::specs::Receive::payload_for))]
 pub fn payload_of(answer: Answer, b: &[u8]) -> &[u8]
     ensures { result.now ≡ payload_for (answer_result answer) b.now }
 {

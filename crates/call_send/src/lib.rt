@@ -41,6 +41,7 @@ pub fn ready(f: Function) -> u32
 }
 
 // Sends one Invalidate Completion for a vector of ITags, if it is not empty.
+#[tactic(auto, using(state::proofs::Commits::commits), unfolding(crate::specs::Drain::sends_vector, state::specs::Answers::sends))]
 fn send_vector(f: Function, v: u32, out: &mut [u8]) -> Effect
     ensures { observed result out.new ≡ commit f out.old (sends_vector f v out.old) }
 {

@@ -32,6 +32,7 @@ pub enum Command {
 }
 
 // Makes any call on any state.
+#[tactic(auto, using(crate::proofs::Calls::quiet_call), unfolding(crate::specs::Call::calling))]
 pub fn call(f: Function, c: Command, bytes: &[u8], out: &mut [u8]) -> Effect
     ensures { observed result out.new ≡ step f c bytes.now out.old }
 {

@@ -350,6 +350,17 @@ class Run:
         cell = env[one.parts[0][0]]
         return cell.value if isinstance(cell.value, Lent) else Lent(cell, 0, cell.value.size)
 
+    def do_method(self, at, env, one, name, given):
+        """Of the methods of a slice there is one: it copies another of its length into it."""
+        if name != "copy_from_slice" or one.kind != "part":
+            raise Unknown("no method " + name)
+        into, source = self.do_lend(at, env, one), self.value(given[0], env)
+        if into.size != source.size:
+            raise Trap("copy")
+        for i in range(into.size):
+            into.store(i, source.get(i))
+        return 0
+
     def do_len(self, at, env, one):
         return self.value(one, env).size
 

@@ -3,7 +3,8 @@ import re
 
 USE = re.compile(r"^(pub )?use ([^;]*);", re.M)
 CLAUSE = re.compile(r"^ +(requires|ensures)(?: (\w+))? \{", re.M)
-FUNCTION = re.compile(r"^(pub )?(?:pub\(crate\) )?(?:extern \"C\" )?fn (\w+)(?:<[^>]*>)?\(([^{]*?)\)(?: -> [^{]*?)?(?: \{$|(?:\n *where\b[^{]*?)?\n((?: +(?:requires|ensures|ghost)\b.*?)?)^\{)", re.M | re.S)
+FUNCTION = re.compile(r"^ *(pub )?(?:pub\(crate\) )?(?:extern \"C\" )?fn (\w+)(?:<[^>]*>)?\(([^{]*?)\)(?: -> [^{]*?)?(?: \{$|(?:\n *where\b[^{]*?)?\n((?: +(?:requires|ensures|ghost)\b.*?)?)^ *\{)", re.M | re.S)
+IMPL = re.compile(r"^impl(?:<[^>]*>)? (?:[^{\n]* for )?(\w+)", re.M)
 CRATE = re.compile(r"^(\w+)(?: staticlib)?: *(.*)$")
 
 
@@ -62,5 +63,11 @@ def clauses(contract):
 
 
 def functions(code):
-    """(is it public, name, what stands between its parentheses, its contract) of each function of a file."""
-    return [(bool(found[1]), found[2], found[3], found[4] or "") for found in FUNCTION.finditer(code)]
+    """(is it public, the type whose method it is or nothing, name, what stands between its parentheses, its contract) of each function of a file."""
+    owners = [(found.start(), found[1]) for found in IMPL.finditer(code)]
+    found = []
+    for one in FUNCTION.finditer(code):
+        inside = one[0].lstrip("\n").startswith(" ")
+        owner = [name for at, name in owners if at < one.start()][-1:] if inside else []
+        found.append((bool(one[1]), "".join(owner), one[2], one[3], one[4] or ""))
+    return found

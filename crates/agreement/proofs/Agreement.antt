@@ -1,19 +1,16 @@
 -- Host and card agree.
-use mathlib.Core.Path.{◌≡◌, refl, sym, ap, ◌∙◌}
-use mathlib.Core.Bool.{Bool, true, false, cond, not, ◌&&◌}
-use mathlib.Core.List.{List, []}
-use Prim.Native.Nat.{ℕ, zero, suc, ◌+◌, ◌-◌, ◌*◌, ◌/◌, ◌%◌, ◌^◌, ◌<◌, ◌≤◌}
+use Rattle.std.specs.Prelude.{Ok, Some}
+use mathlib.Core.Path.{◌≡◌, refl, ap, ◌∙◌}
+use mathlib.Core.List.{List}
+use Prim.Native.Nat.{ℕ, ◌-◌, ◌*◌, ◌/◌, ◌^◌, ◌<◌, ◌≤◌}
 use native.Mathlib.Omega.{arith}
-use lib.Dec.{eqb}
 use lib.ListN.{length}
 use borrow.Author.Tests.{eq-eqb}
 use Rattle.lemmas.proofs.Cases.{by_cases}
-use Rattle.ranges.specs.declared.Size.TheVariants.{Exponent}
 use Rattle.ranges.specs.declared.Translation.{Translation}
 use Rattle.packet.specs.declared.Outcome.TheVariants.{Data, Status}
 use Rattle.packet.specs.declared.Packet.{Packet}
 use Rattle.packet.specs.declared.TranslationRequest.{TranslationRequest}
-use Rattle.packet.specs.Numbers.{ok}
 use Rattle.packet.specs.Reading.{reading, payload_in}
 use Rattle.tlp.specs.Translations.{translation_at}
 use Rattle.tlp.specs.Fields.{TypedBody}
@@ -31,13 +28,13 @@ use Rattle.call_receive.specs.Receive.{taken, received}
 use Rattle.walk.specs.declared.End.{End}
 use Rattle.walk.specs.declared.End.TheVariants.{Mapped, Unmapped, NotLent}
 use Rattle.walk.specs.declared.Mapping.{Mapping}
-use Rattle.walk.specs.declared.Rights.{Rights}
 use Rattle.walk.specs.Walk.{is_none}
 use Rattle.walk.proofs.Laws.{SoundEnd, walk_sound, LowEnd, walk_low}
 use Rattle.translator.specs.declared.Report.{Report}
 use Rattle.translator.specs.Translator.{null_translation, translation_with, translation_to, reply_packet, reply_to, translating}
 use Rattle.translator.specs.Replies.{ValidRequest, walk_for, Holds, sent_for}
-use Rattle.translator.proofs.Replies.{typed_request, request_dwords, host_replies}
+use Rattle.translator.proofs.Laws.{request_dwords}
+use Rattle.translator.proofs.Replies.{typed_request, host_replies}
 use Rattle.agreement.specs.Agreement.{Outstanding, request_units, rights_left, state_after, answer_to, Takes, request_of, HostAndCardAgree}
 use Rattle.agreement.proofs.Fits.{new_request, only_packet}
 use Rattle.agreement.proofs.Fills.{null_applied, page_applied}
@@ -49,10 +46,10 @@ module _ (host : ℕ) (b : List ℕ) (p : Packet) (t : TranslationRequest) (f : 
   q = new_request o.address (request_units t - 1)
 
   some : 1 ≤ request_units t
-  some = omega (arith, (request_dwords host b p t v.read v.request).0)
+  some = omega (arith, (request_dwords b p v.read t v.request).0)
 
   few : request_units t ≤ 16
-  few = omega (arith, (request_dwords host b p t v.read v.request).1)
+  few = omega (arith, (request_dwords b p v.read t v.request).1)
 
   fits : o.address / 4096 * 4096 < 2 ^ 64
   unfolding TypedBody
@@ -60,8 +57,8 @@ module _ (host : ℕ) (b : List ℕ) (p : Packet) (t : TranslationRequest) (f : 
 
   -- a reply with a translation, which makes the cache d
   data_received : (s : List ℕ) (x : Translation) (e : ℕ) (d : Cache)
-      → reading s ≡ ok (reply_packet host p.head t.tag (Data 2) 8 120)
-      → length (payload_in s) ≡ 8 → translation_at (payload_in s) 0 ≡ x → x.size ≡ Exponent e → 12 ≤ e
+      → reading s ≡ Ok (reply_packet host p.head t.tag (Data 2) 8 120)
+      → length (payload_in s) ≡ 8 → translation_at (payload_in s) 0 ≡ x → x.size ≡ Some e → 12 ≤ e
       → applied q (payload_in s) f.cache ≡ d
       → received f s ≡ sends_nothing (with_tag (with_cache f d) t.tag Free) filled
   unfolding received taken completed on_translation_data applied_if_live
@@ -69,7 +66,7 @@ module _ (host : ℕ) (b : List ℕ) (p : Packet) (t : TranslationRequest) (f : 
       rw (reads, eq-eqb _ _ o.sender, o.pending, only_packet o.address (request_units t - 1) (payload_in s) e fits eight (ap (λ (y : Translation). y.size) given ∙ sized) low f.rcb, o.enabled, becomes)
 
   -- the null translation
-  null_received : (s : List ℕ) → reading s ≡ ok (reply_packet host p.head t.tag (Data 2) 8 120)
+  null_received : (s : List ℕ) → reading s ≡ Ok (reply_packet host p.head t.tag (Data 2) 8 120)
       → length (payload_in s) ≡ 8 → translation_at (payload_in s) 0 ≡ null_translation
       → received f s ≡ sends_nothing (state_after f t Unmapped) filled
   null_received s reads eight given =
@@ -78,7 +75,7 @@ module _ (host : ℕ) (b : List ℕ) (p : Packet) (t : TranslationRequest) (f : 
 
   -- a page
   page_received : (m : Mapping) (s : List ℕ) → SoundEnd (Mapped m) → t.address < 2 ^ 48
-      → reading s ≡ ok (reply_packet host p.head t.tag (Data 2) 8 120)
+      → reading s ≡ Ok (reply_packet host p.head t.tag (Data 2) 8 120)
       → length (payload_in s) ≡ 8 → translation_at (payload_in s) 0 ≡ translation_to t.nowrite m
       → received f s ≡ sends_nothing (state_after f t (Mapped m)) filled
   page_received m s sound low reads eight given =
@@ -88,20 +85,20 @@ module _ (host : ℕ) (b : List ℕ) (p : Packet) (t : TranslationRequest) (f : 
       (page_applied t m o.address (payload_in s) some few o.page low eight (rw right at given) sound.0 sound.1 sound.2 right f.cache)))
 
   -- status 100
-  status_received : (s : List ℕ) → reading s ≡ ok (reply_packet host p.head t.tag (Status 4) (4 * t.dwords) 0)
+  status_received : (s : List ℕ) → reading s ≡ Ok (reply_packet host p.head t.tag (Status 4) (4 * t.dwords) 0)
       → received f s ≡ sends_nothing (state_after f t NotLent) aborted
   unfolding received taken completed on_translation_status
   status_received s reads = rw (reads, eq-eqb _ _ o.sender, o.pending)
 
   -- whatever the walk's end
   end_received : (e : End) (s : List ℕ) → SoundEnd e → LowEnd t.address e
-      → reading s ≡ ok (reply_to host p.head t e).packet → payload_in s ≡ (reply_to host p.head t e).payload → Holds t e (payload_in s)
+      → reading s ≡ Ok (reply_to host p.head t e).packet → payload_in s ≡ (reply_to host p.head t e).payload → Holds t e (payload_in s)
       → received f s ≡ sends_nothing (state_after f t e) (answer_to e)
   end_received (Mapped m) s sound low reads payload holds = page_received m s sound low reads (ap length payload) holds
   end_received Unmapped s sound low reads payload holds = null_received s reads (ap length payload) holds
   end_received NotLent s sound low reads payload holds = status_received s reads
 
-  replied : (entries out : List ℕ) (r : Report) → (translating host b entries out).answer ≡ ok r
+  replied : (entries out : List ℕ) (r : Report) → (translating host b entries out).answer ≡ Ok r
       → Takes f (sent_for host b entries out r) t (walk_for entries t).end
   replied entries out r e =
       let back = host_replies.reads host b entries out p t r v e in

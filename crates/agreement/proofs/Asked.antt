@@ -1,16 +1,15 @@
 -- An ask with STU 0 leaves a request that the host can answer.
-use mathlib.Core.Path.{◌≡◌, refl, sym, ap, ◌∙◌}
-use mathlib.Core.Bool.{Bool, true, false, cond}
+use Rattle.std.specs.Prelude.{None, Option, Some}
+use mathlib.Core.Path.{◌≡◌, refl, ◌∙◌}
+use mathlib.Core.Bool.{true}
 use mathlib.Core.List.{List, []}
-use Prim.Native.Nat.{ℕ, ◌-◌, ◌*◌, ◌/◌, ◌<◌, ◌≤◌, ◌^◌}
+use Prim.Native.Nat.{ℕ, ◌-◌, ◌*◌, ◌/◌, ◌<◌, ◌^◌}
 use native.Mathlib.Omega.{arith}
 use lib.ListN.{length}
 use borrow.Author.Tests.{ltb-true}
 use Rattle.packet.specs.declared.Tag.{Tag}
 use Rattle.tlp.specs.Fields.{TypedBody, Typed}
 use Rattle.tlp.proofs.RoundTrips.{written_reads}
-use Rattle.tags.specs.declared.FreeTag.{FreeTag}
-use Rattle.tags.specs.declared.FreeTag.TheVariants.{Lowest, NoneFree}
 use Rattle.tags.specs.Tags.{free_tag}
 use Rattle.tags.proofs.Laws.{set_tag_own, free_tag_lem}
 use Rattle.state.specs.declared.Function.{Function}
@@ -18,7 +17,6 @@ use Rattle.state.specs.Answers.{Success}
 use Rattle.state.proofs.Laws.{Does, does_refusal, does_case, does_write}
 use Rattle.call_ask.specs.declared.AskArgs.{AskArgs}
 use Rattle.call_ask.specs.Ask.{is_askable, translation_request_packet, ask_on, asking}
-use Rattle.call_ask.proofs.AskLaws.{few_units}
 use Rattle.translator.specs.Replies.{ValidRequest}
 use Rattle.agreement.specs.Agreement.{Outstanding, request_of, Asked}
 
@@ -28,11 +26,11 @@ module _ (host : ℕ) (h : host < 65536) (f : Function) (a : AskArgs) (out : Lis
       (tag : Tag) × (ValidRequest host d.bytes (translation_request_packet f.id tag a) (request_of tag a)
       × Outstanding d.state (translation_request_packet f.id tag a) (request_of tag a))
 
-  on_tag : f.enabled ≡ true → is_askable f.rcb f.stu a ≡ true → (x : FreeTag) → free_tag f.tags ≡ x
+  on_tag : f.enabled ≡ true → is_askable f.rcb f.stu a ≡ true → (x : Option Tag) → free_tag f.tags ≡ x
       → Does Leaves (ask_on f x a out)
   unfolding TypedBody
-  on_tag on askable NoneFree e = does_refusal Leaves 11
-  on_tag on askable (Lowest tag) e =
+  on_tag on askable None e = does_refusal Leaves 11
+  on_tag on askable (Some tag) e =
       let free = free_tag_lem f.tags tag tags e in
       let p = translation_request_packet f.id tag a in
       let number : tag.0 < 32 = ltb-true tag.0 32 free.0 in

@@ -1,34 +1,33 @@
 -- What the reply does to the cache: the units in the walk's page are filled, or the first one is deleted.
+use Rattle.std.specs.Prelude.{Some}
 use mathlib.Core.Path.{◌≡◌, refl, sym, ap, ◌∙◌}
 use mathlib.Core.Bool.{Bool, true, false, cond, not, ◌||◌}
 use mathlib.Core.List.{List}
-use Prim.Native.Nat.{ℕ, zero, suc, ◌+◌, ◌-◌, ◌*◌, ◌/◌, ◌%◌, ◌^◌, ◌<◌, ◌≤◌, min}
-use native.Mathlib.Nat.{div-mul-le_self, div-add-mod', min-eq_left}
+use Prim.Native.Nat.{ℕ, zero, suc, ◌+◌, ◌-◌, ◌*◌, ◌/◌, ◌%◌, ◌^◌, ◌<◌, ◌≤◌}
+use native.Mathlib.Nat.{div-add-mod', min-eq_left}
 use native.Mathlib.Omega.{arith}
 use native.Mathlib.Decide.{dec_le}
-use lib.Dec.{eqb, leb, ltb}
+use lib.Dec.{eqb, ltb}
 use lib.ListN.{length}
-use borrow.Author.Tests.{le-leb, lt-ltb, le-ltb, eq-eqb, ne_eqb, eqb-true, eqb-false}
+use borrow.Author.Tests.{lt-ltb, le-ltb, eq-eqb, ne_eqb, eqb-true, eqb-false}
 use Rattle.lemmas.specs.Iterate.{iterate}
 use Rattle.lemmas.proofs.Cases.{by_cases, impossible}
 use Rattle.lemmas.proofs.Iterate.{iterate_same}
-use Rattle.ranges.specs.declared.Size.TheVariants.{Exponent}
 use Rattle.ranges.specs.declared.Translation.{Translation}
 use Rattle.ranges.specs.Range.{region_of, relocated, unit_count, units_from, range_from}
 use Rattle.ranges.proofs.Units.{region_monotone}
 use Rattle.packet.specs.declared.TranslationRequest.{TranslationRequest}
 use Rattle.tlp.specs.Translations.{translation_at}
 use Rattle.atc.specs.declared.Cache.{Cache}
-use Rattle.atc.specs.declared.Entry.{Entry}
-use Rattle.atc.specs.Cache.{filled_with, unit_dropped}
+use Rattle.atc.specs.Cache.{unit_dropped}
 use Rattle.tags.specs.declared.PendingTranslation.{PendingTranslation}
 use Rattle.tags.specs.Tags.{translation_range}
-use Rattle.translations.specs.Fits.{common_size, exponent_or0, received_count}
-use Rattle.translations.specs.Fills.{allows_access, entry_of, unit_updated, region_index, updated_if_covered, updated_at, applied}
+use Rattle.translations.specs.Fits.{received_count}
+use Rattle.translations.specs.Fills.{entry_of, unit_updated, updated_if_covered, updated_at, applied}
 use Rattle.walk.specs.declared.Mapping.{Mapping}
 use Rattle.walk.specs.Walk.{is_none}
 use Rattle.translator.specs.Translator.{translation_with, null_translation}
-use Rattle.agreement.specs.Agreement.{request_unit, request_units, lies_in_page, rights_left, page_entry, unit_filled, units_filled}
+use Rattle.agreement.specs.Agreement.{request_units, rights_left, page_entry, unit_filled, units_filled}
 use Rattle.agreement.proofs.Fits.{new_request, range_first, range_from_lem, size_is}
 
 -- an address moved to an aligned base keeps its offset
@@ -52,7 +51,7 @@ index_zero x y h = by_cases (eqb x y) (λ e. rw e (lt-ltb (x - y) 1 (omega (arit
 -- a reply of one translation x of 2 ^ e bytes, for n units from `first` on
 module _ (asked n : ℕ) (payload : List ℕ) (x : Translation) (e : ℕ)
     (some : 1 ≤ n) (few : n ≤ 16)
-    (fits : asked / 4096 * 4096 < 2 ^ 64) (eight : length payload ≡ 8) (given : translation_at payload 0 ≡ x) (sized : x.size ≡ Exponent e) (low : 12 ≤ e) where
+    (fits : asked / 4096 * 4096 < 2 ^ 64) (eight : length payload ≡ 8) (given : translation_at payload 0 ≡ x) (sized : x.size ≡ Some e) (low : 12 ≤ e) where
   abbrev q : PendingTranslation
   q = new_request asked (n - 1)
 
@@ -140,7 +139,7 @@ module _ (t : TranslationRequest) (m : Mapping) (asked : ℕ) (payload : List �
 
   entry_is : (unit : ℕ) → entry_of page_translation m.exponent unit ≡ page_entry t m unit
   entry_is unit =
-      ap (λ (to : ℕ). record { used = true; r = (rights_left t m).r; w = (rights_left t m).w; n = false; u = false; unit = unit; to = to }) (moved m.base unit m.exponent up aligned)
+      ap (λ (to : ℕ). record { r = (rights_left t m).r; w = (rights_left t m).w; n = false; u = false; unit = unit; to = to }) (moved m.base unit m.exponent up aligned)
 
   grants : (r w : Bool) → not (r || w) ≡ false → (r || w) ≡ true
   grants true w h = refl

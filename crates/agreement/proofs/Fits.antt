@@ -1,16 +1,14 @@
 -- The host's reply fits the request of the Function that asked with STU 0.
-use mathlib.Core.Path.{◌≡◌, refl, sym, ap, ◌∙◌}
-use mathlib.Core.Bool.{Bool, true, false, cond, ◌&&◌}
+use Rattle.std.specs.Prelude.{Some}
+use mathlib.Core.Path.{◌≡◌, refl}
+use mathlib.Core.Bool.{true, false}
 use mathlib.Core.List.{List}
-use Prim.Native.Nat.{ℕ, ◌+◌, ◌-◌, ◌*◌, ◌/◌, ◌%◌, ◌^◌, ◌<◌, ◌≤◌}
+use Prim.Native.Nat.{ℕ, ◌-◌, ◌*◌, ◌/◌, ◌^◌, ◌<◌, ◌≤◌}
 use native.Mathlib.Nat.{add-zero, div-mul-le_self, le_trans}
 use native.Mathlib.Omega.{arith}
-use lib.Dec.{eqb, leb}
 use lib.ListN.{length}
 use borrow.Author.Tests.{le-leb, eq-eqb}
 use Rattle.lemmas.specs.All.{all_below}
-use Rattle.ranges.specs.declared.Size.TheVariants.{Exponent}
-use Rattle.ranges.specs.declared.Range.{Range}
 use Rattle.ranges.specs.Range.{region_of, unit_count, units_from, range_from}
 use Rattle.ranges.proofs.Units.{range_from_ends}
 use Rattle.tlp.specs.Translations.{translation_at}
@@ -37,11 +35,11 @@ module _ (asked further : ℕ) where
   unfolding translation_range units_from region_of
   range_from_lem h = (range_from_ends (asked / 4096 * 4096) (unit_count further * 4096 - 1) h).0
 
-module _ (asked further : ℕ) (payload : List ℕ) (e : ℕ) (fits : asked / 4096 * 4096 < 2 ^ 64) (eight : length payload ≡ 8) (sized : (translation_at payload 0).size ≡ Exponent e) (low : 12 ≤ e) where
+module _ (asked further : ℕ) (payload : List ℕ) (e : ℕ) (fits : asked / 4096 * 4096 < 2 ^ 64) (eight : length payload ≡ 8) (sized : (translation_at payload 0).size ≡ Some e) (low : 12 ≤ e) where
   abbrev q : PendingTranslation
   q = new_request asked further
 
-  pub size_is : common_size q payload ≡ Exponent e
+  pub size_is : common_size q payload ≡ Some e
   unfolding common_size
   size_is = sized
 

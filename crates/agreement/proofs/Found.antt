@@ -1,7 +1,8 @@
 -- Which of the filled units are found afterwards.
-use mathlib.Core.Path.{◌≡◌, refl, sym, ap, ◌∙◌}
-use mathlib.Core.Bool.{Bool, true, false, cond}
-use Prim.Native.Nat.{ℕ, zero, suc, ◌+◌, ◌*◌, ◌<◌, ◌≤◌}
+use Rattle.std.specs.Prelude.{Some}
+use mathlib.Core.Path.{◌≡◌, ◌∙◌}
+use mathlib.Core.Bool.{true, false}
+use Prim.Native.Nat.{ℕ, zero, suc, ◌<◌}
 use native.Mathlib.Numerals.{add-one}
 use native.Mathlib.Omega.{arith}
 use native.Mathlib.Decide.{dec_le}
@@ -10,8 +11,7 @@ use Rattle.lemmas.proofs.Cases.{by_cases, either_case}
 use Rattle.lemmas.proofs.Iterate.{iterate_invariant}
 use Rattle.packet.specs.declared.TranslationRequest.{TranslationRequest}
 use Rattle.atc.specs.declared.Cache.{Cache}
-use Rattle.atc.specs.declared.Found.TheVariants.{Hit}
-use Rattle.atc.specs.Cache.{found, filled_with, SoundCache}
+use Rattle.atc.specs.Cache.{found, SoundCache}
 use Rattle.atc.proofs.Laws.{laws, fill_spares}
 use Rattle.walk.specs.declared.Mapping.{Mapping}
 use Rattle.walk.specs.Walk.{is_none}
@@ -28,19 +28,19 @@ module _ (t : TranslationRequest) (m : Mapping) (c : Cache) (sound : SoundCache 
       (λ k d l s. either_case SoundCache (lies_in_page t m k) _ _ (λ inside. laws.fill_sound (page_entry t m (request_unit t k)) d s) (λ outside. s))
 
   module _ (j : ℕ) (inside : lies_in_page t m j ≡ true) where
-    found_first : found (after (suc j)) (request_unit t j) ≡ Hit (page_entry t m (request_unit t j))
+    found_first : found (after (suc j)) (request_unit t j) ≡ Some (page_entry t m (request_unit t j))
     unfolding iterate
-    found_first = rw inside (laws.fill_found (page_entry t m (request_unit t j)) (after j) (sound_after j) refl)
+    found_first = rw inside (laws.fill_found (page_entry t m (request_unit t j)) (after j) (sound_after j))
 
     -- it stays found if each later step leaves it
     stays_found : (n : ℕ) → j < n
         → ((k : ℕ) → j < k → k < n → found (after (suc k)) (request_unit t j) ≡ found (after k) (request_unit t j))
-        → found (after n) (request_unit t j) ≡ Hit (page_entry t m (request_unit t j))
+        → found (after n) (request_unit t j) ≡ Some (page_entry t m (request_unit t j))
     stays_found zero l leaves = absurd (omega (arith, l))
     stays_found (suc n) l leaves = go (dec_le (suc j) n) (λ h. stays_found n h (λ k a b. leaves k a (omega arith)))
       where
-        go : Dec (j < n) → (j < n → found (after n) (request_unit t j) ≡ Hit (page_entry t m (request_unit t j)))
-            → found (after (suc n)) (request_unit t j) ≡ Hit (page_entry t m (request_unit t j))
+        go : Dec (j < n) → (j < n → found (after n) (request_unit t j) ≡ Some (page_entry t m (request_unit t j)))
+            → found (after (suc n)) (request_unit t j) ≡ Some (page_entry t m (request_unit t j))
         go (yes h) before = leaves n h (omega arith) ∙ before h
         go (no h) before = let same : n ≡ j = omega arith in rw same found_first
 

@@ -1,14 +1,12 @@
 -- Host and card agree: what the Function does with the host's reply to its own request. 02, "b".
-use Rattle.std.specs.Prelude.{◌≡◌, Bool, true, false, cond, List, ℕ, ◌+◌, ◌-◌, ◌*◌, ◌/◌, ◌%◌, ◌^◌, ◌<◌, eqb, length}
+use Rattle.std.specs.Prelude.{◌≡◌, Bool, true, false, cond, List, ℕ, ◌+◌, ◌-◌, ◌*◌, ◌/◌, ◌%◌, ◌^◌, ◌<◌, eqb, length, Ok, Some}
 use Rattle.lemmas.specs.Iterate.{iterate}
 use Rattle.packet.specs.declared.Body.TheVariants.{Tr}
 use Rattle.packet.specs.declared.Packet.{Packet}
 use Rattle.packet.specs.declared.Tag.{Tag}
 use Rattle.packet.specs.declared.TranslationRequest.{TranslationRequest}
-use Rattle.packet.specs.Numbers.{ok}
 use Rattle.atc.specs.declared.Cache.{Cache}
 use Rattle.atc.specs.declared.Entry.{Entry}
-use Rattle.atc.specs.declared.Found.TheVariants.{Hit}
 use Rattle.atc.specs.Cache.{found, filled_with, unit_dropped, SoundCache}
 use Rattle.tags.specs.declared.TagState.TheVariants.{Free}
 use Rattle.tags.specs.Tags.{tag_state, new_translation}
@@ -58,7 +56,6 @@ rights_left t m = final_rights t.nowrite m.rights
 abbrev pub page_entry : TranslationRequest → Mapping → ℕ → Entry
 page_entry t m unit =
     record {
-      used = true;
       r = (rights_left t m).r;
       w = (rights_left t m).w;
       n = false;
@@ -103,7 +100,7 @@ HandUnused t m c = (j : ℕ) → j < request_units t → (units_filled t m (j + 
 -- unit j is found after the reply, with its entry
 abbrev pub FoundAfter : TranslationRequest → Mapping → Cache → ℕ → Type 0
 FoundAfter t m c j =
-    found (cache_after t (Mapped m) c) (request_unit t j) ≡ Hit (page_entry t m (request_unit t j))
+    found (cache_after t (Mapped m) c) (request_unit t j) ≡ Some (page_entry t m (request_unit t j))
 
 -- the request of an ask
 abbrev pub request_of : Tag → AskArgs → TranslationRequest
@@ -111,7 +108,7 @@ request_of tag a = record { tag = tag; dwords = 2 * a.units; address = a.address
 
 -- an ask with STU 0 that is not refused; the Function has 32 tags, as every reachable one has
 pub record Asked (f : Function) (a : AskArgs) (out : List ℕ) (d : Success) : Type 0 where
-  pub done : asking f a out ≡ ok d
+  pub done : asking f a out ≡ Ok d
   pub unit : f.stu ≡ 0
   pub id : f.id < 65536
   pub address : a.address < 2 ^ 64
@@ -120,7 +117,7 @@ pub record Asked (f : Function) (a : AskArgs) (out : List ℕ) (d : Success) : T
 pub record HostAndCardAgree : Type 0 where
   -- The RCB of the Function may be 64 or 128.
   pub reply : (host : ℕ) (b entries out : List ℕ) (p : Packet) (t : TranslationRequest) (r : Report) (f : Function)
-      → ValidRequest host b p t → (translating host b entries out).answer ≡ ok r → Outstanding f p t
+      → ValidRequest host b p t → (translating host b entries out).answer ≡ Ok r → Outstanding f p t
       → Takes f (sent_for host b entries out r) t (walk_for entries t).end
   -- Every ask with STU 0 leaves such a request,
   pub every_ask : (host : ℕ) (f : Function) (a : AskArgs) (out : List ℕ) (d : Success) → host < 65536 → Asked f a out d
@@ -128,7 +125,7 @@ pub record HostAndCardAgree : Type 0 where
       × Outstanding d.state (translation_request_packet f.id tag a) (request_of tag a))
   -- so that ask, reply and receipt go together.
   pub round_trip : (host : ℕ) (entries room : List ℕ) (r : Report) (f : Function) (a : AskArgs) (out : List ℕ) (d : Success)
-      → host < 65536 → Asked f a out d → (translating host d.bytes entries room).answer ≡ ok r
+      → host < 65536 → Asked f a out d → (translating host d.bytes entries room).answer ≡ Ok r
       → (tag : Tag) × Takes d.state (sent_for host d.bytes entries room r) (request_of tag a) (walk_for entries (request_of tag a)).end
   -- The last unit filled is found afterwards, and every one of them if no fill uses the hand.
   pub last_found : (t : TranslationRequest) (m : Mapping) (c : Cache) (j : ℕ) → SoundCache c → is_none (rights_left t m) ≡ false

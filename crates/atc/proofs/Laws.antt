@@ -1,29 +1,26 @@
 -- The laws of a cache that the layers above use, as one record; and a proof that this cache satisfies them.
-use Rattle.std.proofs.Common.{◌≡◌, ℕ, zero, suc, ◌+◌, ◌%◌, ◌^◌, ◌<◌, ◌≤◌, true, false, cond, eqb, ltb, ◌⊎◌, List, length, replicate, sym, refl, ap, ◌∙◌, inl, inr, ⊎_elim, arith, length-set, get_or-set_same, ltb-false, ltb-true, lt-ltb, eq-eqb, eqb-true}
+use Rattle.std.proofs.Common.{◌≡◌, ℕ, zero, suc, ◌+◌, ◌%◌, ◌^◌, ◌<◌, ◌≤◌, true, false, ◌⊎◌, List, length, replicate, sym, refl, ap, ◌∙◌, inl, inr, ⊎_elim, arith, length-set, get_or-set_same, eq-eqb, eqb-true, Option, None, Some, is_some}
+use Rattle.std.specs.Option.{unwrap_or, option_or}
+use Rattle.std.proofs.lemmas.Option.{same_Some, none-some}
+use Rattle.std.proofs.lemmas.List.Quantifiers.{position-Some}
 use native.Mathlib.Decide.{dec_le}
 use lib.ListN.{length-map, get_or-eq_default, get_or-map}
-use lib.Seq.{set_out}
-use borrow.Author.Tests.{not-true}
-use Rattle.lemmas.proofs.Cases.{by_cases, and_both, never_both, is_false, impossible}
-use Rattle.lemmas.proofs.First.{first_holds, first_least, first_other, first_map}
+use Rattle.lemmas.proofs.Cases.{by_cases, never_both, is_false, impossible}
+use Rattle.lemmas.proofs.First.{by_option, position_none, position_set, position_map}
 use Rattle.lemmas.proofs.Maps.{set_or}
 use Rattle.ranges.specs.declared.Range.{Range}
 use Rattle.ranges.specs.Range.{unit_exponent, region_of, overlaps}
 use Rattle.atc.specs.declared.Entry.{Entry}
 use Rattle.atc.specs.declared.Cache.{Cache}
-use Rattle.atc.specs.declared.Found.{Found}
-use Rattle.atc.specs.declared.Found.TheVariants.{Hit, Miss}
 use Rattle.atc.specs.Cache.{no_entry, blank, emptied, is_entry_of, is_free_slot, slot_of, free_slot, slot_at, entry_at, found, with_slot, filled_with, unit_dropped, entry_overlaps, entry_dropped, range_dropped, SoundCache}
 
--- A cache is a type C with these operations. Each number has an entry, or `no_entry`.
-pub record CacheLaws (C : Type 0) (Sound : C → Type 0) (at : C → ℕ → Entry) (find : C → ℕ → Found) (new : C) (empty : C → C) (fill : Entry → C → C) (drop : ℕ → C → C) (dropRange : ℕ → Range → C → C) : Type 0 where
+-- A cache is a type C with these operations. Each number has an entry, or none.
+pub record CacheLaws (C : Type 0) (Sound : C → Type 0) (at : C → ℕ → Option Entry) (find : C → ℕ → Option Entry) (new : C) (empty : C → C) (fill : Entry → C → C) (drop : ℕ → C → C) (dropRange : ℕ → Range → C → C) : Type 0 where
   -- a unit has at most one entry
-  pub single : (c : C) → Sound c → (i j : ℕ) → (at c i).used ≡ true → (at c j).used ≡ true → (at c i).unit ≡ (at c j).unit
-      → i ≡ j
+  pub single : (c : C) → Sound c → (i j : ℕ) (a b : Entry) → at c i ≡ Some a → at c j ≡ Some b → a.unit ≡ b.unit → i ≡ j
   -- an entry that is found is an entry of the unit, and is in the cache; an entry in the cache is found by its unit
-  pub found_is : (c : C) → Sound c → (unit : ℕ) (e : Entry) → find c unit ≡ Hit e
-      → (e.used ≡ true) × (e.unit ≡ unit) × ((i : ℕ) × (at c i ≡ e))
-  pub found_only : (c : C) → Sound c → (i : ℕ) → (at c i).used ≡ true → find c (at c i).unit ≡ Hit (at c i)
+  pub found_is : (c : C) → Sound c → (unit : ℕ) (e : Entry) → find c unit ≡ Some e → (e.unit ≡ unit) × ((i : ℕ) × (at c i ≡ Some e))
+  pub found_only : (c : C) → Sound c → (i : ℕ) (e : Entry) → at c i ≡ Some e → find c e.unit ≡ Some e
   -- a new cache is empty
   pub new_sound : Sound new
   pub new_entry : (i : ℕ) → at new i ≡ no_entry
@@ -32,15 +29,15 @@ pub record CacheLaws (C : Type 0) (Sound : C → Type 0) (at : C → ℕ → Ent
   pub empty_entry : (c : C) (i : ℕ) → at (empty c) i ≡ no_entry
   -- a fill: only the new entry is added, and it is found; any other unit keeps its entry or loses it
   pub fill_sound : (e : Entry) (c : C) → Sound c → Sound (fill e c)
-  pub fill_entry : (e : Entry) (c : C) → Sound c → (i : ℕ) → (at (fill e c) i ≡ at c i) ⊎ (at (fill e c) i ≡ e)
-  pub fill_found : (e : Entry) (c : C) → Sound c → e.used ≡ true → find (fill e c) e.unit ≡ Hit e
+  pub fill_entry : (e : Entry) (c : C) → Sound c → (i : ℕ) → (at (fill e c) i ≡ at c i) ⊎ (at (fill e c) i ≡ Some e)
+  pub fill_found : (e : Entry) (c : C) → Sound c → find (fill e c) e.unit ≡ Some e
   pub fill_other : (e : Entry) (c : C) → Sound c → (unit : ℕ) → (e.unit ≡ unit → ⊥)
-      → (find (fill e c) unit ≡ find c unit) ⊎ (find (fill e c) unit ≡ Miss)
+      → (find (fill e c) unit ≡ find c unit) ⊎ (find (fill e c) unit ≡ None)
   -- the entry of a unit is deleted: it is not found, and any other is unchanged
   pub drop_sound : (unit : ℕ) (c : C) → Sound c → Sound (drop unit c)
   pub drop_entry : (unit : ℕ) (c : C) → Sound c → (i : ℕ)
       → (at (drop unit c) i ≡ at c i) ⊎ (at (drop unit c) i ≡ no_entry)
-  pub drop_found : (unit : ℕ) (c : C) → Sound c → find (drop unit c) unit ≡ Miss
+  pub drop_found : (unit : ℕ) (c : C) → Sound c → find (drop unit c) unit ≡ None
   pub drop_other : (unit : ℕ) (c : C) → Sound c → (other : ℕ) → (unit ≡ other → ⊥)
       → find (drop unit c) other ≡ find c other
   -- a range is deleted: exactly the entries whose unit overlaps it are deleted
@@ -48,83 +45,79 @@ pub record CacheLaws (C : Type 0) (Sound : C → Type 0) (at : C → ℕ → Ent
   pub range_entry : (stu : ℕ) (range : Range) (c : C) → Sound c → (i : ℕ)
       → at (dropRange stu range c) i ≡ entry_dropped stu range (at c i)
   pub range_found : (stu : ℕ) (range : Range) (c : C) → Sound c → (unit : ℕ)
-      → overlaps (region_of unit (unit_exponent stu)) range ≡ true → find (dropRange stu range c) unit ≡ Miss
+      → overlaps (region_of unit (unit_exponent stu)) range ≡ true → find (dropRange stu range c) unit ≡ None
   pub range_other : (stu : ℕ) (range : Range) (c : C) → Sound c → (unit : ℕ)
       → overlaps (region_of unit (unit_exponent stu)) range ≡ false → find (dropRange stu range c) unit ≡ find c unit
 
--- a used slot is one of the list
-used_lt : (slots : List Entry) (i : ℕ) → (slot_at slots i).used ≡ true → i < length slots
-used_lt slots i u = go (dec_le (length slots) i)
+-- a slot with an entry is one of the list
+used_lt : (slots : List (Option Entry)) (i : ℕ) (e : Entry) → slot_at slots i ≡ Some e → i < length slots
+used_lt slots i e u = go (dec_le (length slots) i)
   where
     go : Dec (length slots ≤ i) → i < length slots
-    go (yes l) = absurd (never_both _ u (rw (get_or-eq_default slots no_entry l)))
+    go (yes l) = absurd (none-some e (sym (get_or-eq_default slots no_entry l) ∙ u))
     go (no n) = omega arith
 
-of_unit : (unit : ℕ) (e : Entry) → is_entry_of unit e ≡ true → (e.used ≡ true) × (e.unit ≡ unit)
-of_unit unit e h = let t = and_both e.used (eqb e.unit unit) h in (t.0, eqb-true e.unit unit t.1)
+of_unit : (unit : ℕ) (slot : Option Entry) → is_entry_of unit slot ≡ true → (e : Entry) × (slot ≡ Some e) × (e.unit ≡ unit)
+of_unit unit None h = impossible cc
+of_unit unit (Some e) h = (e, refl, eqb-true e.unit unit h)
 
 -- a cache that only loses entries stays sound
 fewer : (c d : Cache) → length d.slots ≡ 32 → ((i : ℕ) → (entry_at d i ≡ entry_at c i) ⊎ (entry_at d i ≡ no_entry))
     → SoundCache c → SoundCache d
-fewer c d all f s = record { slots = all; single = λ i j u v q. s.single i j (rw (kept i u) at u) (rw (kept j v) at v) (rw (kept i u, kept j v) at q) }
+fewer c d all f s = record { slots = all; single = λ i j a b u v q. s.single i j a b (kept i a u) (kept j b v) q }
   where
-    kept : (k : ℕ) → (entry_at d k).used ≡ true → entry_at d k ≡ entry_at c k
-    kept k h = ⊎_elim (λ a. a) (λ a. absurd (never_both _ h (rw a))) (f k)
+    kept : (k : ℕ) (e : Entry) → entry_at d k ≡ Some e → entry_at c k ≡ Some e
+    kept k e h = ⊎_elim (λ a. sym a ∙ h) (λ a. absurd (none-some e (sym a ∙ h))) (f k)
 
 -- ---- finding an entry
 
+module _ (c : Cache) (unit : ℕ) where
+  own_holds : (i : ℕ) → slot_of c.slots unit ≡ Some i → is_entry_of unit (entry_at c i) ≡ true
+  own_holds i p = (position-Some (is_entry_of unit) c.slots i no_entry p).1
+
+  slot_is : (i : ℕ) → slot_of c.slots unit ≡ Some i → (e : Entry) × (entry_at c i ≡ Some e) × (e.unit ≡ unit)
+  slot_is i p = of_unit unit (entry_at c i) (own_holds i p)
+
+  -- if no slot holds an entry of the unit, none is found
+  none_found : ((i : ℕ) (e : Entry) → entry_at c i ≡ Some e → e.unit ≡ unit → ⊥) → found c unit ≡ None
+  unfolding found
+  none_found f = by_option (slot_of c.slots unit) (λ n. rw n) (λ i p. let h = slot_is i p in absurd (f i h.0 h.1 h.2))
+
+  same_found : (d : Cache) → slot_of d.slots unit ≡ slot_of c.slots unit
+      → ((i : ℕ) → slot_of c.slots unit ≡ Some i → entry_at d i ≡ entry_at c i) → found d unit ≡ found c unit
+  unfolding found
+  same_found d q f = rw q (by_option (slot_of c.slots unit) (λ n. rw n) (λ i p. rw p (f i p)))
+
+  -- a store to a slot that held no entry of the unit, of no entry of it, does not change what is found
+  same_put : (k : ℕ) (x : Option Entry) (hand : ℕ) → is_entry_of unit (entry_at c k) ≡ false → is_entry_of unit x ≡ false
+      → found (with_slot c k x hand) unit ≡ found c unit
+  same_put k x hand f g =
+      same_found (with_slot c k x hand) (position_set (is_entry_of unit) c.slots k x no_entry (g ∙ sym f))
+      (λ i p. ⊎_elim (λ q. q) (λ q. absurd (never_both _ (rw q.0 at (own_holds i p)) f)) (set_or c.slots k i x no_entry))
+
 module _ (c : Cache) (s : SoundCache c) (unit : ℕ) where
-  abbrev own : ℕ
-  own = slot_of c.slots unit
+  slot_only : (i : ℕ) (e : Entry) → entry_at c i ≡ Some e → e.unit ≡ unit → slot_of c.slots unit ≡ Some i
+  slot_only i e u q =
+      by_option (slot_of c.slots unit)
+      (λ n. absurd (never_both (is_entry_of unit (entry_at c i)) (rw u (eq-eqb e.unit unit q)) (position_none (is_entry_of unit) c.slots i no_entry n (used_lt c.slots i e u))))
+      (λ k p. let h = slot_is c unit k p in p ∙ ap Some (s.single k i h.0 e h.1 u (h.2 ∙ sym q)))
 
-  slot_holds : own < 32 → is_entry_of unit (entry_at c own) ≡ true
-  slot_holds l = first_holds (is_entry_of unit) c.slots no_entry (rw s.slots l)
-
-  slot_is : own < 32 → ((entry_at c own).used ≡ true) × ((entry_at c own).unit ≡ unit)
-  slot_is l = of_unit unit (entry_at c own) (slot_holds l)
-
-  slot_lt : (i : ℕ) → (entry_at c i).used ≡ true → (entry_at c i).unit ≡ unit → own < 32
-  slot_lt i u q =
-      let h : is_entry_of unit (entry_at c i) ≡ true = rw (u, eq-eqb (entry_at c i).unit unit q) in
-      omega (arith, first_least (is_entry_of unit) c.slots no_entry i h, used_lt c.slots i u, s.slots)
-
-  slot_only : (i : ℕ) → (entry_at c i).used ≡ true → (entry_at c i).unit ≡ unit → own ≡ i
-  slot_only i u q = let h = slot_is (slot_lt i u q) in s.single own i h.0 u (h.1 ∙ sym q)
-
-  found_is : (e : Entry) → found c unit ≡ Hit e → (e.used ≡ true) × (e.unit ≡ unit) × ((i : ℕ) × (entry_at c i ≡ e))
+  found_is : (e : Entry) → found c unit ≡ Some e → (e.unit ≡ unit) × ((i : ℕ) × (entry_at c i ≡ Some e))
   unfolding found
   found_is e f =
-      by_cases (ltb own 32)
-      (λ p. let q : Hit (entry_at c own) ≡ Hit e = rw p at f in
-      let k : entry_at c own ≡ e = cc in
-      let h = slot_is (ltb-true _ _ p) in
-      (rw k at h.0, rw k at h.1, (own, k)))
-      (λ p. let q : Miss ≡ Hit e = rw p at f in impossible cc)
+      by_option (slot_of c.slots unit)
+      (λ n. absurd (none-some e (rw n at f)))
+      (λ i p. let g : entry_at c i ≡ Some e = rw p at f in
+      let h = slot_is c unit i p in
+      (ap (λ (x : Entry). x.unit) (same_Some e h.0 (sym g ∙ h.1)) ∙ h.2, (i, g)))
 
-  found_at : (i : ℕ) → (entry_at c i).used ≡ true → (entry_at c i).unit ≡ unit → found c unit ≡ Hit (entry_at c i)
+  found_at : (i : ℕ) (e : Entry) → entry_at c i ≡ Some e → e.unit ≡ unit → found c unit ≡ Some e
   unfolding found
-  found_at i u q = rw (lt-ltb own 32 (slot_lt i u q), slot_only i u q)
+  found_at i e u q = rw (slot_only i e u q) u
 
-  -- if no slot holds an entry of the unit, none is found,
-  none_found : ((i : ℕ) → (entry_at c i).used ≡ true → (entry_at c i).unit ≡ unit → ⊥) → found c unit ≡ Miss
-  unfolding found
-  none_found f = rw (is_false (ltb own 32) (λ p. let h = slot_is (ltb-true _ _ p) in f own h.0 h.1))
-
-  -- and if none is found, no slot holds one
-  found_none : found c unit ≡ Miss → (i : ℕ) → (entry_at c i).used ≡ true → (entry_at c i).unit ≡ unit → ⊥
-  found_none f i u q = let m : Hit (entry_at c i) ≡ Miss = sym (found_at i u q) ∙ f in impossible cc
-
-  same_found : (d : Cache) → slot_of d.slots unit ≡ own → (own < 32 → entry_at d own ≡ entry_at c own)
-      → found d unit ≡ found c unit
-  unfolding found
-  same_found d q f = rw q (by_cases (ltb own 32) (λ p. rw p (ap Hit (f (ltb-true _ _ p)))) (λ p. rw p))
-
-  -- a store to a slot that held no entry of the unit, of an entry of another unit, does not change what is found
-  same_put : (k : ℕ) (e : Entry) (hand : ℕ) → is_entry_of unit (entry_at c k) ≡ false → is_entry_of unit e ≡ false
-      → found (with_slot c k e hand) unit ≡ found c unit
-  same_put k e hand f g =
-      same_found (with_slot c k e hand) (first_other (is_entry_of unit) c.slots k e no_entry f g)
-      (λ l. ⊎_elim (λ q. q) (λ q. absurd (never_both _ (rw q.0 at (slot_holds l)) f)) (set_or c.slots k own e no_entry))
+  -- if none is found, no slot holds one
+  found_none : found c unit ≡ None → (i : ℕ) (e : Entry) → entry_at c i ≡ Some e → e.unit ≡ unit → ⊥
+  found_none f i e u q = none-some e (sym f ∙ found_at i e u q)
 
 -- ---- the empty cache
 
@@ -134,99 +127,108 @@ free_all (suc n) zero = refl
 free_all (suc n) (suc i) = free_all n i
 
 bare_sound : (hand : ℕ) → SoundCache (record { hand = hand; slots = replicate 32 no_entry })
-bare_sound hand = record { slots = refl; single = λ i j u v q. absurd (never_both _ u (rw (free_all 32 i))) }
+bare_sound hand = record { slots = refl; single = λ i j a b u v q. absurd (none-some a (sym (free_all 32 i) ∙ u)) }
 
 -- ---- a fill
 
-abbrev free : Cache → ℕ
-free c = free_slot c.slots
-
 -- the slot that a fill sets
 abbrev place : Entry → Cache → ℕ
-place e c = cond (ltb (slot_of c.slots e.unit) 32) (slot_of c.slots e.unit) (cond (ltb (free c) 32) (free c) (c.hand % 32))
+place e c = unwrap_or (option_or (slot_of c.slots e.unit) (free_slot c.slots)) (c.hand % 32)
 
 module _ (e : Entry) (c : Cache) where
   -- what holds in each of the three cases holds for a fill and its slot
   by_place : (P : Cache → ℕ → Type 0)
-      → (slot_of c.slots e.unit < 32 → P (with_slot c (slot_of c.slots e.unit) e c.hand) (slot_of c.slots e.unit))
-      → (free c < 32 → P (with_slot c (free c) e c.hand) (free c))
-      → (32 ≤ slot_of c.slots e.unit → 32 ≤ free c → P (with_slot c (c.hand % 32) e ((c.hand + 1) % 2 ^ 32)) (c.hand % 32))
+      → ((i : ℕ) → slot_of c.slots e.unit ≡ Some i → P (with_slot c i (Some e) c.hand) i)
+      → ((i : ℕ) → free_slot c.slots ≡ Some i → P (with_slot c i (Some e) c.hand) i)
+      → (slot_of c.slots e.unit ≡ None → free_slot c.slots ≡ None → P (with_slot c (c.hand % 32) (Some e) ((c.hand + 1) % 2 ^ 32)) (c.hand % 32))
       → P (filled_with e c) (place e c)
   unfolding filled_with
   by_place P f g h =
-      by_cases (ltb (slot_of c.slots e.unit) 32)
-      (λ p. rw p (f (ltb-true _ _ p)))
-      (λ p. by_cases (ltb (free c) 32)
-      (λ q. rw (p, q) (g (ltb-true _ _ q)))
-      (λ q. rw (p, q) (h (ltb-false _ _ p) (ltb-false _ _ q))))
+      by_option (slot_of c.slots e.unit)
+      (λ p. by_option (free_slot c.slots) (λ q. rw (p, q, filled_with) (h p q)) (λ i q. rw (p, q, filled_with) (g i q)))
+      (λ i p. rw (p, filled_with) (f i p))
 
-  -- the slot is one of the 32,
-  place_lt : place e c < 32
-  place_lt = by_place (λ d k. k < 32) (λ l. l) (λ l. l) (λ m n. omega arith)
+  -- no slot but this one changes:
+  fill_sets : filled_with e c ≡ with_slot c (place e c) (Some e) (filled_with e c).hand
+  fill_sets = by_place (λ d k. d ≡ with_slot c k (Some e) d.hand) (λ i l. refl) (λ i l. refl) (λ m n. refl)
 
-  -- and no other changes:
-  fill_sets : filled_with e c ≡ with_slot c (place e c) e (filled_with e c).hand
-  fill_sets = by_place (λ d k. d ≡ with_slot c k e d.hand) (λ l. refl) (λ l. refl) (λ m n. refl)
-
-  -- each slot is unchanged, or is the filled one and holds the entry
+  -- each is unchanged, or is the filled one and holds the entry
   fill_slot : (i : ℕ)
-      → (entry_at (filled_with e c) i ≡ entry_at c i) ⊎ ((i ≡ place e c) × (entry_at (filled_with e c) i ≡ e))
-  fill_slot i = rw fill_sets (set_or c.slots (place e c) i e no_entry)
+      → (entry_at (filled_with e c) i ≡ entry_at c i) ⊎ ((i ≡ place e c) × (entry_at (filled_with e c) i ≡ Some e))
+  fill_slot i = rw fill_sets (set_or c.slots (place e c) i (Some e) no_entry)
+
+  free_is : (i : ℕ) → free_slot c.slots ≡ Some i → entry_at c i ≡ None
+  free_is i p = empty (entry_at c i) (position-Some is_free_slot c.slots i no_entry p).1
+    where
+      empty : (slot : Option Entry) → is_free_slot slot ≡ true → slot ≡ None
+      empty None h = refl
+      empty (Some x) h = impossible cc
 
 module _ (e : Entry) (c : Cache) (s : SoundCache c) where
-  free_is : free c < 32 → (entry_at c (free c)).used ≡ false
-  free_is l = not-true _ (first_holds is_free_slot c.slots no_entry (rw s.slots l))
+  -- the slot is one of the 32
+  place_lt : place e c < 32
+  place_lt =
+      by_place e c (λ d k. k < 32)
+      (λ i l. rw s.slots at (position-Some (is_entry_of e.unit) c.slots i no_entry l).0)
+      (λ i l. rw s.slots at (position-Some is_free_slot c.slots i no_entry l).0)
+      (λ m n. omega arith)
 
   -- if the unit has an entry, that entry is replaced
-  fill_own : (i : ℕ) → (entry_at c i).used ≡ true → (entry_at c i).unit ≡ e.unit → place e c ≡ i
-  fill_own i u q =
-      rw (lt-ltb (slot_of c.slots e.unit) 32 (slot_lt c s e.unit i u q)) (slot_only c s e.unit i u q)
+  fill_own : (i : ℕ) (a : Entry) → entry_at c i ≡ Some a → a.unit ≡ e.unit → place e c ≡ i
+  fill_own i a u q = rw (slot_only c s e.unit i a u q)
 
   fill_sound : SoundCache (filled_with e c)
   fill_sound =
       record {
-        slots = rw (fill_sets e c) (length-set c.slots (place e c) e ∙ s.slots);
-        single = λ i j u v q. ⊎_elim
-            (λ a. ⊎_elim
-            (λ b. s.single i j (rw a at u) (rw b at v) (rw a at (rw b at q)))
-            (λ b. sym (b.0 ∙ fill_own i (rw a at u) (rw a at (rw b.1 at q))))
+        slots = rw (fill_sets e c) (length-set c.slots (place e c) (Some e) ∙ s.slots);
+        single = λ i j a b u v q. ⊎_elim
+            (λ k. ⊎_elim
+            (λ l. s.single i j a b (sym k ∙ u) (sym l ∙ v) q)
+            (λ l. sym (l.0 ∙ fill_own i a (sym k ∙ u) (q ∙ unit_of b (sym v ∙ l.1))))
             (fill_slot e c j))
-            (λ a. ⊎_elim
-            (λ b. a.0 ∙ fill_own j (rw b at v) (sym (rw a.1 at (rw b at q))))
-            (λ b. a.0 ∙ sym b.0)
+            (λ k. ⊎_elim
+            (λ l. k.0 ∙ fill_own j b (sym l ∙ v) (sym q ∙ unit_of a (sym u ∙ k.1)))
+            (λ l. k.0 ∙ sym l.0)
             (fill_slot e c j))
             (fill_slot e c i);
       }
+    where
+      unit_of : (a : Entry) → Some a ≡ Some e → a.unit ≡ e.unit
+      unit_of a h = ap (λ (x : Entry). x.unit) (same_Some a e h)
 
-  at_place : entry_at (filled_with e c) (place e c) ≡ e
-  at_place = rw (fill_sets e c) (get_or-set_same c.slots (place e c) e no_entry (rw s.slots (place_lt e c)))
+  at_place : entry_at (filled_with e c) (place e c) ≡ Some e
+  at_place =
+      let l : place e c < length c.slots = omega (arith, place_lt, s.slots) in
+      rw (fill_sets e c) (get_or-set_same c.slots (place e c) (Some e) no_entry l)
 
-  fill_found : e.used ≡ true → found (filled_with e c) e.unit ≡ Hit e
-  fill_found u =
-      found_at (filled_with e c) fill_sound e.unit (place e c) (rw at_place u) (rw at_place) ∙ ap Hit at_place
+  fill_found : found (filled_with e c) e.unit ≡ Some e
+  fill_found = found_at (filled_with e c) fill_sound e.unit (place e c) e at_place refl
 
   -- a unit keeps its entry unless the entry was in the filled slot,
   fill_spared : (unit : ℕ) → (e.unit ≡ unit → ⊥) → is_entry_of unit (entry_at c (place e c)) ≡ false
       → found (filled_with e c) unit ≡ found c unit
   fill_spared unit f g =
       ap (λ (d : Cache). found d unit) (fill_sets e c)
-      ∙ same_put c s unit (place e c) e (filled_with e c).hand g (is_false (is_entry_of unit e) (λ h. f (of_unit unit e h).1))
+      ∙ same_put c unit (place e c) (Some e) (filled_with e c).hand g (is_false (is_entry_of unit (Some e)) (λ h. f (eqb-true e.unit unit h)))
 
   -- in which case it loses the entry
   fill_other : (unit : ℕ) → (e.unit ≡ unit → ⊥)
-      → (found (filled_with e c) unit ≡ found c unit) ⊎ (found (filled_with e c) unit ≡ Miss)
+      → (found (filled_with e c) unit ≡ found c unit) ⊎ (found (filled_with e c) unit ≡ None)
   fill_other unit f =
       by_cases (is_entry_of unit (entry_at c (place e c))) (λ h. inr (lost h)) (λ h. inl (fill_spared unit f h))
     where
-      lost : is_entry_of unit (entry_at c (place e c)) ≡ true → found (filled_with e c) unit ≡ Miss
+      lost : is_entry_of unit (entry_at c (place e c)) ≡ true → found (filled_with e c) unit ≡ None
       lost h =
-          none_found (filled_with e c) fill_sound unit
-          (λ i u q. ⊎_elim
-          (λ a. let o = of_unit unit (entry_at c (place e c)) h in
-          let k : i ≡ place e c = s.single i (place e c) (rw a at u) o.0 ((rw a at q) ∙ sym o.1) in
-          f (rw (k, at_place) at q))
-          (λ a. f (rw a.1 at q))
+          none_found (filled_with e c) unit
+          (λ i a u q. let o = of_unit unit (entry_at c (place e c)) h in
+          ⊎_elim
+          (λ k. let l : i ≡ place e c = s.single i (place e c) a o.0 (sym k ∙ u) o.1 (q ∙ sym o.2) in
+          f (of a (sym at_place ∙ rw l at u) ∙ q))
+          (λ k. f (of a (sym k.1 ∙ u) ∙ q))
           (fill_slot e c i))
+        where
+          of : (a : Entry) → Some e ≡ Some a → e.unit ≡ a.unit
+          of a k = ap (λ (x : Entry). x.unit) (same_Some e a k)
 
   -- ---- the hand of this cache
 
@@ -237,70 +239,82 @@ module _ (e : Entry) (c : Cache) (s : SoundCache c) where
       fill_spared unit f
       (is_false (is_entry_of unit (entry_at c (place e c)))
       (λ h. by_place e c (λ d k. d.hand ≡ c.hand → is_entry_of unit (entry_at c k) ≡ true → ⊥)
-      (λ l r g. f (sym (slot_is c s e.unit l).1 ∙ (of_unit unit (entry_at c (slot_of c.slots e.unit)) g).1))
-      (λ l r g. never_both _ (of_unit unit (entry_at c (free c)) g).0 (free_is l))
+      (λ i l r g. let o = slot_is c e.unit i l in f (sym o.2 ∙ eqb-true o.0.unit unit (rw o.1 at g)))
+      (λ i l r g. let g : is_entry_of unit None ≡ true = rw (free_is e c i l) at g in impossible cc)
       (λ m n r g. omega arith)
       stays h))
 
   -- the hand stays, or the unit had no entry and no slot was free
   pub fill_hand : ((filled_with e c).hand ≡ c.hand)
-      ⊎ ((found c e.unit ≡ Miss) × ((i : ℕ) → i < 32 → (entry_at c i).used ≡ true))
+      ⊎ ((found c e.unit ≡ None) × ((i : ℕ) → i < 32 → is_some (entry_at c i) ≡ true))
   fill_hand =
-      by_place e c (λ d k. (d.hand ≡ c.hand) ⊎ ((found c e.unit ≡ Miss) × ((i : ℕ) → i < 32 → (entry_at c i).used ≡ true)))
-      (λ l. inl refl)
-      (λ l. inl refl)
-      (λ m n. inr (none_found c s e.unit (λ i u q. omega (arith, slot_lt c s e.unit i u q)), full n))
+      by_place e c (λ d k. (d.hand ≡ c.hand) ⊎ ((found c e.unit ≡ None) × ((i : ℕ) → i < 32 → is_some (entry_at c i) ≡ true)))
+      (λ i l. inl refl)
+      (λ i l. inl refl)
+      (λ m n. inr (none_found c e.unit (λ i a u q. none-some i (sym m ∙ slot_only c s e.unit i a u q)), full n))
     where
-      full : 32 ≤ free c → (i : ℕ) → i < 32 → (entry_at c i).used ≡ true
-      full n i l = by_cases (entry_at c i).used (λ t. t) (λ t. absurd (omega (arith, first_least is_free_slot c.slots no_entry i (rw t))))
+      in_use : (slot : Option Entry) → is_free_slot slot ≡ false → is_some slot ≡ true
+      in_use None h = impossible cc
+      in_use (Some x) h = refl
+
+      full : free_slot c.slots ≡ None → (i : ℕ) → i < 32 → is_some (entry_at c i) ≡ true
+      full n i l = in_use (entry_at c i) (position_none is_free_slot c.slots i no_entry n (rw s.slots l))
 
   -- in that case the slot of the hand is filled, and the hand steps
-  pub fill_full : found c e.unit ≡ Miss → ((i : ℕ) → i < 32 → (entry_at c i).used ≡ true)
-      → filled_with e c ≡ with_slot c (c.hand % 32) e ((c.hand + 1) % 2 ^ 32)
+  pub fill_full : found c e.unit ≡ None → ((i : ℕ) → i < 32 → is_some (entry_at c i) ≡ true)
+      → filled_with e c ≡ with_slot c (c.hand % 32) (Some e) ((c.hand + 1) % 2 ^ 32)
   fill_full m f =
-      by_place e c (λ d k. d ≡ with_slot c (c.hand % 32) e ((c.hand + 1) % 2 ^ 32))
-      (λ l. let own = slot_is c s e.unit l in absurd (found_none c s e.unit m (slot_of c.slots e.unit) own.0 own.1))
-      (λ l. absurd (never_both _ (f (free c) l) (free_is l)))
+      by_place e c (λ d k. d ≡ with_slot c (c.hand % 32) (Some e) ((c.hand + 1) % 2 ^ 32))
+      (λ i l. let own = slot_is c e.unit i l in absurd (found_none c s e.unit m i own.0 own.1 own.2))
+      (λ i l. let in_use = f i (rw s.slots at (position-Some is_free_slot c.slots i no_entry l).0) in
+      let none : is_some {T = Entry} None ≡ true = rw (free_is e c i l) at in_use in
+      impossible cc)
       (λ m n. refl)
 
 -- ---- deleting the entry of a unit
 
-module _ (unit : ℕ) (c : Cache) (s : SoundCache c) where
-  drop_sets : unit_dropped unit c ≡ with_slot c (slot_of c.slots unit) no_entry c.hand
+module _ (unit : ℕ) (c : Cache) where
+  -- what holds in both cases holds for the deletion
+  by_drop : (P : Cache → Type 0) → (slot_of c.slots unit ≡ None → P c)
+      → ((i : ℕ) → slot_of c.slots unit ≡ Some i → P (with_slot c i no_entry c.hand)) → P (unit_dropped unit c)
   unfolding unit_dropped
-  drop_sets =
-      by_cases (ltb (slot_of c.slots unit) 32)
-      (λ p. rw p)
-      (λ p. let l : length c.slots ≤ slot_of c.slots unit = omega (arith, ltb-false (slot_of c.slots unit) 32 p, s.slots) in
-      rw (p, set_out c.slots (slot_of c.slots unit) no_entry l))
+  by_drop P f g = by_option (slot_of c.slots unit) (λ n. rw (n, unit_dropped) (f n)) (λ i p. rw (p, unit_dropped) (g i p))
 
   drop_entry : (i : ℕ) → (entry_at (unit_dropped unit c) i ≡ entry_at c i) ⊎ (entry_at (unit_dropped unit c) i ≡ no_entry)
   drop_entry i =
-      rw drop_sets (⊎_elim inl (λ q. inr q.1) (set_or c.slots (slot_of c.slots unit) i no_entry no_entry))
+      by_drop (λ d. (entry_at d i ≡ entry_at c i) ⊎ (entry_at d i ≡ no_entry))
+      (λ n. inl refl)
+      (λ k p. ⊎_elim inl (λ q. inr q.1) (set_or c.slots k i no_entry no_entry))
 
-  drop_sound : SoundCache (unit_dropped unit c)
-  drop_sound = fewer c (unit_dropped unit c) (rw drop_sets (length-set c.slots (slot_of c.slots unit) no_entry ∙ s.slots)) drop_entry s
+  module _ (s : SoundCache c) where
+    drop_sound : SoundCache (unit_dropped unit c)
+    drop_sound =
+        fewer c (unit_dropped unit c)
+        (by_drop (λ d. length d.slots ≡ 32) (λ n. s.slots) (λ i p. length-set c.slots i no_entry ∙ s.slots)) drop_entry s
 
-  drop_found : found (unit_dropped unit c) unit ≡ Miss
-  drop_found = none_found (unit_dropped unit c) drop_sound unit (λ i u q. gone i (drop_entry i) u q)
-    where
-      gone : (i : ℕ) → (entry_at (unit_dropped unit c) i ≡ entry_at c i) ⊎ (entry_at (unit_dropped unit c) i ≡ no_entry)
-          → (entry_at (unit_dropped unit c) i).used ≡ true → (entry_at (unit_dropped unit c) i).unit ≡ unit → ⊥
-      gone i (inl a) u q =
-          let k = slot_only c s unit i (rw a at u) (rw a at q) in
-          let l = used_lt c.slots i (rw a at u) in
-          never_both _ u (rw (drop_sets, k, get_or-set_same c.slots i no_entry no_entry l))
-      gone i (inr a) u q = never_both _ u (rw a)
+    drop_found : found (unit_dropped unit c) unit ≡ None
+    drop_found =
+        by_drop (λ d. found d unit ≡ None)
+        (λ n. none_found c unit (λ i e u q. none-some i (sym n ∙ slot_only c s unit i e u q)))
+        (λ k p. none_found (with_slot c k no_entry c.hand) unit (λ i e u q. gone k p i e (set_or c.slots k i no_entry no_entry) u q))
+      where
+        gone : (k : ℕ) → slot_of c.slots unit ≡ Some k → (i : ℕ) (e : Entry)
+            → (entry_at (with_slot c k no_entry c.hand) i ≡ entry_at c i) ⊎ ((i ≡ k) × (entry_at (with_slot c k no_entry c.hand) i ≡ no_entry))
+            → entry_at (with_slot c k no_entry c.hand) i ≡ Some e → e.unit ≡ unit → ⊥
+        gone k p i e (inl a) u q =
+            let same : k ≡ i = same_Some k i (sym p ∙ slot_only c s unit i e (sym a ∙ u) q) in
+            let l = used_lt c.slots i e (sym a ∙ u) in
+            none-some e (sym (get_or-set_same c.slots i no_entry no_entry l) ∙ rw same at u)
+        gone k p i e (inr a) u q = none-some e (sym a.1 ∙ u)
 
-  drop_other : (other : ℕ) → (unit ≡ other → ⊥) → found (unit_dropped unit c) other ≡ found c other
-  drop_other other f =
-      let k = slot_of c.slots unit in
-      let x = entry_at c k in
-      ap (λ (d : Cache). found d other) drop_sets
-      ∙ same_put c s other k no_entry c.hand
-      (is_false (is_entry_of other x)
-      (λ h. let o = of_unit other x h in f (sym (slot_is c s unit (rw s.slots at (used_lt c.slots k o.0))).1 ∙ o.1)))
-      refl
+    drop_other : (other : ℕ) → (unit ≡ other → ⊥) → found (unit_dropped unit c) other ≡ found c other
+    drop_other other f =
+        by_drop (λ d. found d other ≡ found c other)
+        (λ n. refl)
+        (λ k p. let o = slot_is c unit k p in
+        same_put c other k no_entry c.hand
+        (is_false (is_entry_of other (entry_at c k)) (λ h. f (sym o.2 ∙ eqb-true o.0.unit other (rw o.1 at h))))
+        refl)
 
 -- ---- deleting every entry that overlaps a range
 
@@ -309,35 +323,43 @@ module _ (stu : ℕ) (range : Range) (c : Cache) where
   unfolding range_dropped
   range_entry i = get_or-map (entry_dropped stu range) c.slots i no_entry
 
-  range_clear : (i : ℕ) → entry_overlaps stu range (entry_at (range_dropped stu range c) i) ≡ false
-  range_clear i = rw (range_entry i) (by_cases (entry_overlaps stu range (entry_at c i)) (λ p. rw p) (λ p. rw p p))
+  -- what a slot holds afterwards it held before, and does not overlap
+  range_left : (slot : Option Entry) (e : Entry) → entry_dropped stu range slot ≡ Some e
+      → (slot ≡ Some e) × (entry_overlaps stu range e ≡ false)
+  range_left None e h = absurd (none-some e h)
+  range_left (Some x) e h =
+      by_cases (entry_overlaps stu range x)
+      (λ p. absurd (none-some e (rw p at h)))
+      (λ p. let q : Some x ≡ Some e = rw p at h in (q, rw (same_Some x e q) at p))
 
   range_sound : SoundCache c → SoundCache (range_dropped stu range c)
   unfolding range_dropped
   range_sound s =
-      fewer c (range_dropped stu range c) (length-map c.slots (entry_dropped stu range) ∙ s.slots)
-      (λ i. rw (range_entry i) (by_cases (entry_overlaps stu range (entry_at c i)) (λ p. rw p (inr refl)) (λ p. rw p (inl refl)))) s
+      record {
+        slots = length-map c.slots (entry_dropped stu range) ∙ s.slots;
+        single = λ i j a b u v q. s.single i j a b (range_left _ a (sym (range_entry i) ∙ u)).0 (range_left _ b (sym (range_entry j) ∙ v)).0 q;
+      }
 
   module _ (s : SoundCache c) (unit : ℕ) where
     range_found : overlaps (region_of unit (unit_exponent stu)) range ≡ true
-        → found (range_dropped stu range c) unit ≡ Miss
-    range_found m = none_found (range_dropped stu range c) (range_sound s) unit (λ i u q. never_both _ (rw (u, q, m)) (range_clear i))
+        → found (range_dropped stu range c) unit ≡ None
+    range_found m =
+        none_found (range_dropped stu range c) unit
+        (λ i e u q. never_both (entry_overlaps stu range e) (rw q m) (range_left _ e (sym (range_entry i) ∙ u)).1)
 
     range_other : overlaps (region_of unit (unit_exponent stu)) range ≡ false
         → found (range_dropped stu range c) unit ≡ found c unit
     unfolding range_dropped
     range_other m =
-        same_found c s unit (range_dropped stu range c) same_slot
-        (λ l. range_entry (slot_of c.slots unit) ∙ kept (entry_at c (slot_of c.slots unit)) (slot_holds c s unit l))
+        same_found c unit (range_dropped stu range c) (position_map (is_entry_of unit) (entry_dropped stu range) same c.slots)
+        (λ i p. let o = slot_is c unit i p in range_entry i ∙ kept (entry_at c i) o.0 o.1 o.2)
       where
-        kept : (e : Entry) → is_entry_of unit e ≡ true → entry_dropped stu range e ≡ e
-        kept e h = let o = of_unit unit e h in rw (o.0, o.1, m)
+        kept : (slot : Option Entry) (e : Entry) → slot ≡ Some e → e.unit ≡ unit → entry_dropped stu range slot ≡ slot
+        kept slot e h q = rw (h, q, m)
 
-        same : (e : Entry) → is_entry_of unit (entry_dropped stu range e) ≡ is_entry_of unit e
-        same e = by_cases (is_entry_of unit e) (λ h. rw (kept e h)) (λ h. rw h (by_cases (entry_overlaps stu range e) (λ p. rw p) (λ p. rw p h)))
-
-        same_slot : slot_of (range_dropped stu range c).slots unit ≡ slot_of c.slots unit
-        same_slot = first_map (is_entry_of unit) (entry_dropped stu range) same c.slots
+        same : (slot : Option Entry) → is_entry_of unit (entry_dropped stu range slot) ≡ is_entry_of unit slot
+        same None = refl
+        same (Some e) = by_cases (entry_overlaps stu range e) (λ p. rw p (sym (is_false (is_entry_of unit (Some e)) (λ h. never_both _ (rw (eqb-true e.unit unit h) at p) m)))) (λ p. rw p)
 
 -- the laws of this cache
 pub laws : CacheLaws Cache SoundCache entry_at found blank emptied filled_with unit_dropped range_dropped
@@ -345,7 +367,7 @@ laws =
     record {
       single = λ c s. s.single;
       found_is = found_is;
-      found_only = λ c s i u. found_at c s (entry_at c i).unit i u refl;
+      found_only = λ c s i e u. found_at c s e.unit i e u refl;
       new_sound = bare_sound 0;
       new_entry = free_all 32;
       empty_sound = λ c. bare_sound c.hand;
@@ -355,7 +377,7 @@ laws =
       fill_found = fill_found;
       fill_other = fill_other;
       drop_sound = drop_sound;
-      drop_entry = drop_entry;
+      drop_entry = λ unit c s. drop_entry unit c;
       drop_found = drop_found;
       drop_other = drop_other;
       range_sound = range_sound;

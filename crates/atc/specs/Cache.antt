@@ -1,16 +1,15 @@
 -- The cache. 01, "ATC".
-use Rattle.std.specs.Prelude.{◌≡◌, ℕ, ◌+◌, ◌%◌, ◌^◌, Bool, true, false, cond, not, ◌&&◌, List, map, length, replicate, ◌==◌, nat_lt, slice_index_or, slice_set}
-use Rattle.lemmas.specs.First.{first_index}
+use Rattle.std.specs.Prelude.{◌≡◌, ℕ, ◌+◌, ◌%◌, ◌^◌, Bool, true, false, cond, List, map, length, replicate, ◌==◌, Option, Some, None, option_and_then, slice_index_or, slice_set}
+use Rattle.std.specs.List.{position}
+use Rattle.std.specs.Option.{option_or}
 use Rattle.ranges.specs.declared.Range.{Range}
 use Rattle.ranges.specs.Range.{unit_exponent, region_of, overlaps}
 use Rattle.atc.specs.declared.Entry.{Entry}
 use Rattle.atc.specs.declared.Cache.{Cache}
-use Rattle.atc.specs.declared.Found.{Found}
-use Rattle.atc.specs.declared.Found.TheVariants.{Hit, Miss}
 
 -- the content of a free slot
-abbrev pub no_entry : Entry
-no_entry = record { used = false; r = false; w = false; n = false; u = false; unit = 0; to = 0 }
+abbrev pub no_entry : Option Entry
+no_entry = None
 
 -- 32 free slots, and the hand at slot 0
 abbrev pub blank : Cache
@@ -21,54 +20,60 @@ abbrev pub emptied : Cache → Cache
 emptied c = record { hand = c.hand; slots = replicate 32 no_entry }
 
 -- is this the entry of the unit with this address?
-abbrev pub is_entry_of : ℕ → Entry → Bool
-is_entry_of unit e = e.used && e.unit == unit
+abbrev pub is_entry_of : ℕ → Option Entry → Bool
+is_entry_of unit None = false
+is_entry_of unit (Some e) = e.unit == unit
 
-abbrev pub is_free_slot : Entry → Bool
-is_free_slot e = not e.used
+abbrev pub is_free_slot : Option Entry → Bool
+is_free_slot None = true
+is_free_slot (Some e) = false
 
-abbrev pub slot_of : List Entry → ℕ → ℕ
-slot_of slots unit = first_index (is_entry_of unit) slots
+abbrev pub slot_of : List (Option Entry) → ℕ → Option ℕ
+slot_of slots unit = position (is_entry_of unit) slots
 
-abbrev pub free_slot : List Entry → ℕ
-free_slot slots = first_index is_free_slot slots
+abbrev pub free_slot : List (Option Entry) → Option ℕ
+free_slot slots = position is_free_slot slots
 
 -- the content of a slot; past the last there is no entry
-abbrev pub slot_at : List Entry → ℕ → Entry
+abbrev pub slot_at : List (Option Entry) → ℕ → Option Entry
 slot_at slots i = slice_index_or slots i no_entry
 
-abbrev pub entry_at : Cache → ℕ → Entry
+abbrev pub entry_at : Cache → ℕ → Option Entry
 entry_at c i = slot_at c.slots i
 
 -- the entry of a unit
-unfoldable pub found : Cache → ℕ → Found
-found c unit = cond (nat_lt (slot_of c.slots unit) 32) (Hit (entry_at c (slot_of c.slots unit))) Miss
+unfoldable pub found : Cache → ℕ → Option Entry
+found c unit = option_and_then (entry_at c) (slot_of c.slots unit)
 
 -- slot i and the hand are set; nothing else changes
-abbrev pub with_slot : Cache → ℕ → Entry → ℕ → Cache
-with_slot c i e hand = record { hand = hand; slots = slice_set c.slots i e }
+abbrev pub with_slot : Cache → ℕ → Option Entry → ℕ → Cache
+with_slot c i slot hand = record { hand = hand; slots = slice_set c.slots i slot }
 
 -- An entry is stored in the slot of the unit's old entry, if there is one, otherwise in the lowest free
 -- slot. If no slot is free, it replaces the slot of the hand (the hand modulo 32). Only then does the
 -- hand step; it wraps at 2 ^ 32.
 unfoldable pub filled_with : Entry → Cache → Cache
-filled_with e c =
-    cond (nat_lt (slot_of c.slots e.unit) 32) (with_slot c (slot_of c.slots e.unit) e c.hand)
-    (cond (nat_lt (free_slot c.slots) 32) (with_slot c (free_slot c.slots) e c.hand)
-    (with_slot c (c.hand % 32) e ((c.hand + 1) % 2 ^ 32)))
+filled_with e c = elim (option_or (slot_of c.slots e.unit) (free_slot c.slots)) [
+  | Some i ↦ with_slot c i (Some e) c.hand
+  | None ↦ with_slot c (c.hand % 32) (Some e) ((c.hand + 1) % 2 ^ 32)
+]
 
 -- the entry of one unit is deleted
 unfoldable pub unit_dropped : ℕ → Cache → Cache
-unit_dropped unit c = cond (nat_lt (slot_of c.slots unit) 32) (with_slot c (slot_of c.slots unit) no_entry c.hand) c
+unit_dropped unit c = elim (slot_of c.slots unit) [
+  | Some i ↦ with_slot c i no_entry c.hand
+  | None ↦ c
+]
 
 -- does an entry's unit overlap a range?
 abbrev pub entry_overlaps : ℕ → Range → Entry → Bool
-entry_overlaps stu range e = e.used && overlaps (region_of e.unit (unit_exponent stu)) range
+entry_overlaps stu range e = overlaps (region_of e.unit (unit_exponent stu)) range
 
-abbrev pub entry_dropped : ℕ → Range → Entry → Entry
-entry_dropped stu range e = cond (entry_overlaps stu range e) no_entry e
+abbrev pub entry_dropped : ℕ → Range → Option Entry → Option Entry
+entry_dropped stu range None = None
+entry_dropped stu range (Some e) = cond (entry_overlaps stu range e) None (Some e)
 
-abbrev pub slots_dropped : ℕ → Range → List Entry → List Entry
+abbrev pub slots_dropped : ℕ → Range → List (Option Entry) → List (Option Entry)
 slots_dropped stu range slots = map (entry_dropped stu range) slots
 
 -- every entry that overlaps a range is deleted
@@ -78,5 +83,4 @@ range_dropped stu range c = record { hand = c.hand; slots = slots_dropped stu ra
 -- 32 slots, and at most one entry per unit
 pub record SoundCache (c : Cache) : Type 0 where
   pub slots : length c.slots ≡ 32
-  pub single : (i j : ℕ) → (entry_at c i).used ≡ true → (entry_at c j).used ≡ true → (entry_at c i).unit ≡ (entry_at c j).unit
-      → i ≡ j
+  pub single : (i j : ℕ) (a b : Entry) → entry_at c i ≡ Some a → entry_at c j ≡ Some b → a.unit ≡ b.unit → i ≡ j

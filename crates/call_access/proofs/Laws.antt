@@ -1,5 +1,6 @@
 -- What is known of an access that has a target.
-use mathlib.Core.Path.{◌≡◌, ◌∙◌}
+use Rattle.std.specs.Prelude.{None, Ok, Option, Some}
+use mathlib.Core.Path.{◌≡◌, sym, ◌∙◌}
 use mathlib.Core.List.{[], ◌∷◌}
 use Prim.Native.Nat.{ℕ, ◌%◌, ◌≤◌}
 use native.Mathlib.Omega.{arith}
@@ -8,12 +9,9 @@ use borrow.Author.Tests.{leb-true, eqb-true}
 use Rattle.lemmas.proofs.Cases.{by_cases, and_both, impossible}
 use Rattle.ranges.specs.Range.{unit_exponent}
 use Rattle.ranges.proofs.Units.{relocated_low}
-use Rattle.packet.specs.Numbers.{ok}
 use Rattle.packet.proofs.Laws.{check_passed, ok_injective}
 use Rattle.packet.proofs.Among.{Among, among}
 use Rattle.atc.specs.declared.Entry.{Entry}
-use Rattle.atc.specs.declared.Found.{Found}
-use Rattle.atc.specs.declared.Found.TheVariants.{Hit, Miss}
 use Rattle.atc.specs.Cache.{found}
 use Rattle.state.specs.declared.Function.{Function}
 use Rattle.call_access.specs.declared.Direction.{Direction}
@@ -31,12 +29,12 @@ pub record Reached (direction : Direction) (dwords load : ℕ) (at : Target) : T
 target_dword : (stu address : ℕ) (e : Entry) → address % 4 ≡ 0 → (target_of stu address e).address % 4 ≡ 0
 target_dword stu address e h = by_cases e.u (λ u. rw u h) (λ u. rw u (relocated_low e.to address (unit_exponent stu) 2 (omega arith) (omega arith) ∙ h))
 
-through_found_dword : (direction : Direction) (stu address : ℕ) (entry : Found) (at : Target) → address % 4 ≡ 0
-    → through_found direction stu address entry ≡ ok at → at.address % 4 ≡ 0
-through_found_dword direction stu address Miss at h e = impossible cc
-through_found_dword direction stu address (Hit x) at h e = rw (ok_injective (check_passed (is_allowed direction x) 14 (ok (target_of stu address x)) e).1) at (target_dword stu address x h)
+through_found_dword : (direction : Direction) (stu address : ℕ) (entry : Option Entry) (at : Target) → address % 4 ≡ 0
+    → through_found direction stu address entry ≡ Ok at → at.address % 4 ≡ 0
+through_found_dword direction stu address None at h e = impossible cc
+through_found_dword direction stu address (Some x) at h e = rw (ok_injective (check_passed (is_allowed direction x) 14 (Ok (target_of stu address x)) e).1) at (target_dword stu address x h)
 
-pub reached : (f : Function) (a : AccessArgs) (load : ℕ) (at : Target) → looking_up f a load ≡ ok at
+pub reached : (f : Function) (a : AccessArgs) (load : ℕ) (at : Target) → looking_up f a load ≡ Ok at
     → Reached a.direction a.dwords load at
 unfolding looking_up
 reached f a load at e =
@@ -53,12 +51,15 @@ reached f a load at e =
       dword = through_found_dword a.direction f.stu a.address (found f.cache (unit_at f.stu a.address)) at (eqb-true (a.address % 4) 0 dword.0) load_is.1;
     }
 
+pub few_dwords : (f : Function) (a : AccessArgs) (load : ℕ) (at : Target) → Ok at ≡ looking_up f a load → a.dwords ≤ 32
+few_dwords f a load at e = (reached f a load at (sym e)).few
+
 -- ---- the numbers of a look-up
 
-entering_numbers : (direction : Direction) (stu address : ℕ) (entry : Found)
+entering_numbers : (direction : Direction) (stu address : ℕ) (entry : Option Entry)
     → Among (6 ∷ 12 ∷ 13 ∷ 14 ∷ []) (through_found direction stu address entry)
-entering_numbers direction stu address Miss = search among
-entering_numbers direction stu address (Hit e) = search among
+entering_numbers direction stu address None = search among
+entering_numbers direction stu address (Some e) = search among
 
 pub looking_up_numbers : (f : Function) (a : AccessArgs) (load : ℕ) → Among (6 ∷ 12 ∷ 13 ∷ 14 ∷ []) (looking_up f a load)
 unfolding looking_up

@@ -1,18 +1,14 @@
 -- Access, and the look-up of its target. 01, "Access".
-use Rattle.std.specs.Prelude.{Bool, true, false, cond, ◌&&◌, List, ℕ, ◌+◌, ◌*◌, ◌%◌, eqb, leb, length}
+use Rattle.std.specs.Prelude.{Bool, true, false, cond, ◌&&◌, List, ℕ, ◌+◌, ◌*◌, ◌%◌, eqb, leb, length, Err, None, Ok, Option, Result, Some}
 use Rattle.ranges.specs.Range.{unit_exponent, region_of, relocated}
 use Rattle.packet.specs.declared.Tag.{Tag}
 use Rattle.packet.specs.declared.Access.{Access}
 use Rattle.packet.specs.declared.Access.TheVariants.{Read, Write}
 use Rattle.packet.specs.declared.Packet.{Packet}
 use Rattle.packet.specs.declared.Body.TheVariants.{Mem}
-use Rattle.packet.specs.Numbers.{Result, ok, refusal, number_of, check}
+use Rattle.packet.specs.Numbers.{check}
 use Rattle.atc.specs.declared.Entry.{Entry}
-use Rattle.atc.specs.declared.Found.{Found}
-use Rattle.atc.specs.declared.Found.TheVariants.{Hit, Miss}
 use Rattle.atc.specs.Cache.{found}
-use Rattle.tags.specs.declared.FreeTag.{FreeTag}
-use Rattle.tags.specs.declared.FreeTag.TheVariants.{Lowest, NoneFree}
 use Rattle.tags.specs.Tags.{free_tag, new_read}
 use Rattle.state.specs.declared.Function.{Function}
 use Rattle.state.specs.State.{with_tag, head_of}
@@ -21,13 +17,6 @@ use Rattle.call_access.specs.declared.Direction.{Direction}
 use Rattle.call_access.specs.declared.Direction.TheVariants.{Read as ToRead, Write as ToWrite}
 use Rattle.call_access.specs.declared.AccessArgs.{AccessArgs}
 use Rattle.call_access.specs.declared.Target.{Target}
-use Rattle.call_access.specs.declared.Goes.{Goes}
-use Rattle.call_access.specs.declared.Goes.TheVariants.{To, Refused}
-
--- the result of an answer of the look-up's code
-abbrev pub look_up_result : Goes → Result Target
-look_up_result (To t) = ok t
-look_up_result (Refused r) = refusal (number_of r)
 
 -- 1 to 32 DWORDs from a DWORD-aligned address on, within one 4096-byte page
 abbrev pub is_in_page : ℕ → ℕ → Bool
@@ -54,12 +43,12 @@ target_of stu address e =
     cond e.u (record { address = address; translated = false })
     (record { address = relocated e.to address (unit_exponent stu); translated = true })
 
-abbrev pub through_found : Direction → ℕ → ℕ → Found → Result Target
-through_found direction stu address Miss = refusal 13
-through_found direction stu address (Hit e) = check 14 (is_allowed direction e) (ok (target_of stu address e))
+abbrev pub through_found : Direction → ℕ → ℕ → Option Entry → Result Target ℕ
+through_found direction stu address None = Err 13
+through_found direction stu address (Some e) = check 14 (is_allowed direction e) (Ok (target_of stu address e))
 
 -- refusals 6, 12, 13, 14 in this order; load is the payload length
-unfoldable pub looking_up : Function → AccessArgs → ℕ → Result Target
+unfoldable pub looking_up : Function → AccessArgs → ℕ → Result Target ℕ
 looking_up f a load =
     check 6 f.enabled
     (check 12 (is_in_page a.address a.dwords)
@@ -74,27 +63,27 @@ memory_request_packet id access dwords t =
     }
 
 -- a read takes a tag, which records the untranslated address
-abbrev pub read_from : Function → Tag → Target → AccessArgs → List ℕ → List ℕ → Result Success
+abbrev pub read_from : Function → Tag → Target → AccessArgs → List ℕ → List ℕ → Result Success ℕ
 read_from f t at a load out =
     sends (with_tag f t (new_read a.address (4 * a.dwords) at.translated)) (tag t.0)
     (memory_request_packet f.id (Read t) a.dwords at) load out
 
-abbrev pub write_to : Function → Target → ℕ → List ℕ → List ℕ → Result Success
+abbrev pub write_to : Function → Target → ℕ → List ℕ → List ℕ → Result Success ℕ
 write_to f at dwords load out = sends f done (memory_request_packet f.id Write dwords at) load out
 
 -- refused with 11 if no tag is free
-abbrev pub read_on : Function → FreeTag → Target → AccessArgs → List ℕ → List ℕ → Result Success
-read_on f (Lowest t) at a load out = read_from f t at a load out
-read_on f NoneFree at a load out = refusal 11
+abbrev pub read_on : Function → Option Tag → Target → AccessArgs → List ℕ → List ℕ → Result Success ℕ
+read_on f (Some t) at a load out = read_from f t at a load out
+read_on f None at a load out = Err 11
 
-abbrev pub sends_access : Function → Direction → Target → AccessArgs → List ℕ → List ℕ → Result Success
+abbrev pub sends_access : Function → Direction → Target → AccessArgs → List ℕ → List ℕ → Result Success ℕ
 sends_access f ToRead at a load out = read_on f (free_tag f.tags) at a load out
 sends_access f ToWrite at a load out = write_to f at a.dwords load out
 
-abbrev pub sends_access_if : Function → AccessArgs → List ℕ → List ℕ → Result Target → Result Success
-sends_access_if f a load out (ok at) = sends_access f a.direction at a load out
-sends_access_if f a load out (refusal n) = refusal n
+abbrev pub sends_access_if : Function → AccessArgs → List ℕ → List ℕ → Result Target ℕ → Result Success ℕ
+sends_access_if f a load out (Ok at) = sends_access f a.direction at a load out
+sends_access_if f a load out (Err n) = Err n
 
 -- refusals 6, 12, 13, 14, 11 (reads only), 17 in this order
-unfoldable pub accessing : Function → AccessArgs → List ℕ → List ℕ → Result Success
+unfoldable pub accessing : Function → AccessArgs → List ℕ → List ℕ → Result Success ℕ
 accessing f a load out = sends_access_if f a load out (looking_up f a (length load))

@@ -2,13 +2,14 @@
 #![tactic(auto)]
 
 ghost use Rattle.std.specs.Prelude.{◌≡◌, ◌≤◌};
+ghost use Rattle.packet.specs.Numbers.{numbered};
+ghost use Rattle.tags.specs.Tags.{free_tag};
 ghost use Rattle.state.specs.Answers.{observed, commit};
-ghost use Rattle.call_access.specs.Access.{look_up_result, is_in_page, payload_length_for, is_allowed, target_of, through_found, looking_up, memory_request_packet, read_from, write_to, sends_access, accessing};
+ghost use Rattle.call_access.specs.Access.{is_in_page, payload_length_for, is_allowed, target_of, looking_up, memory_request_packet, read_on, write_to, accessing};
 
-use atc::{Entry, Found};
-use packet::{Access, Body, MemoryRequest, Packet, Refusal, Tag, Writing};
+use atc::Entry;
+use packet::{Access, Body, MemoryRequest, Packet, Refusal};
 use state::{Answer, Effect, Function};
-use tags::FreeTag;
 
 // An access reads or writes.
 #[derive(Clone, Copy)]
@@ -32,23 +33,10 @@ pub struct Target {
     pub translated: bool,
 }
 
-#[derive(Clone, Copy)]
-pub enum Goes {
-    To(Target),
-    Refused(Refusal),
-}
-
 fn is_in_page(address: u64, dwords: u16) -> bool
     ensures { result ≡ is_in_page address dwords }
 {
-    if 1 <= dwords {
-        if dwords <= 32 {
-            if address % 4 == 0 {
-                return address % 4096 + 4 * dwords as u64 <= 4096;
-            }
-        }
-    }
-    false
+    1 <= dwords && dwords <= 32 && address % 4 == 0 && address % 4096 + 4 * dwords as u64 <= 4096
 }
 
 // The payload length of an access.
@@ -86,140 +74,95 @@ fn target_of(stu: u8, address: u64, e: Entry) -> Target
     }
 }
 
-fn through_entry(direction: Direction, stu: u8, address: u64, e: Entry) -> Goes
-    ensures { look_up_result result ≡ through_found direction stu address (Found.Hit e) }
-{
-    if is_allowed(direction, e) {
-        Goes::To(target_of(stu, address, e))
-    } else {
-        Goes::Refused(Refusal::NoPermission)
-    }
-}
-
-fn through_found(direction: Direction, stu: u8, address: u64, entry: Found) -> Goes
-    ensures { look_up_result result ≡ through_found direction stu address entry }
-{
-    match entry {
-        Found::Hit(e) => through_entry(direction, stu, address, e),
-        Found::Miss => Goes::Refused(Refusal::NoEntry),
-    }
-}
-
 // The target of an access with `load` bytes of payload, or why it is refused. Nothing changes.
 #[tactic(auto, using(lemmas::proofs::Cases::cases), unfolding(crate::specs::Access::looking_up))]
-pub fn look_up(f: Function, a: AccessArgs, load: usize) -> Goes
-    ensures { look_up_result result ≡ looking_up f a load }
+pub fn look_up(f: &Function, a: AccessArgs, load: usize) -> Result<Target, Refusal>
+    ensures { numbered result ≡ looking_up f.now a load }
 {
-    let direction = a.direction;
-    if f.enabled {
-        if is_in_page(a.address, a.dwords) {
-            if load == payload_length_for(direction, a.dwords) {
-                let cache = f.cache;
-                let unit = ranges::region(a.address, ranges::unit_exponent(f.stu)).first;
-                let entry = atc::find(cache, unit);
-                through_found(direction, f.stu, a.address, entry)
-            } else {
-                Goes::Refused(Refusal::BadArgument)
-            }
-        } else {
-            Goes::Refused(Refusal::BadArgument)
-        }
-    } else {
-        Goes::Refused(Refusal::Disabled)
+    if !f.enabled {
+        return Err(Refusal::Disabled);
     }
+    if !is_in_page(a.address, a.dwords) || load != payload_length_for(a.direction, a.dwords) {
+        return Err(Refusal::BadArgument);
+    }
+    let unit = ranges::region(a.address, ranges::unit_exponent(f.stu)).first;
+    let entry = f.cache.find(unit).ok_or(Refusal::NoEntry)?;
+    if !is_allowed(a.direction, entry) {
+        return Err(Refusal::NoPermission);
+    }
+    Ok(target_of(f.stu, a.address, entry))
 }
 
 fn memory_request_packet(id: u16, access: Access, dwords: u16, at: Target) -> Packet
     ensures { result ≡ memory_request_packet id access dwords at }
 {
-    let body = Body::Mem(MemoryRequest {
-        access,
-        dwords,
-        address: at.address,
-        translated: at.translated,
-    });
     Packet {
         head: state::head(id),
-        body,
+        body: Body::Mem(MemoryRequest {
+            access,
+            dwords,
+            address: at.address,
+            translated: at.translated,
+        }),
     }
 }
 
+// Sends a read on the lowest free tag.
 #[tactic(auto, unfolding(state::specs::Answers::sends))]
-fn read_from(
-    f: Function,
-    tag: Tag,
+fn read_on(
+    f: &mut Function,
     at: Target,
     a: AccessArgs,
     payload: &[u8],
     out: &mut [u8],
-) -> Effect
+) -> Result<Effect, Refusal>
     requires { a.dwords ≤ 32 }
-    ensures { observed result out.new ≡ commit f out.old (read_from f tag at a payload.now out.old) }
+    ensures { observed f.new result out.new ≡ commit f.old out.old (read_on f.old (free_tag f.old.tags) at a payload.now out.old) }
 {
-    let access = Access::Read(tag);
-    let p = memory_request_packet(f.id, access, a.dwords, at);
-    match tlp::write_packet(p, payload, out) {
-        Writing::Written(n) => {
-            let o = tags::new_read(a.address, 4 * a.dwords, at.translated);
-            let answer = Answer::Opened(tag);
-            Effect {
-                state: state::with_tag(f, tag, o),
-                answer,
-                sent: n,
-            }
-        }
-        Writing::Refused(r) => state::refused(f, r),
-    }
+    let Some(tag) = tags::lowest_free(&f.tags) else {
+        return Err(Refusal::NoFreeTag);
+    };
+    let p = memory_request_packet(f.id, Access::Read(tag), a.dwords, at);
+    let sent = tlp::write_packet(p, payload, out)?;
+    let pending = tags::new_read(a.address, 4 * a.dwords, at.translated);
+    tags::set_tag(&mut f.tags, tag, pending);
+    Ok(Effect {
+        answer: Answer::Opened(tag),
+        sent,
+    })
 }
 
 #[tactic(auto, unfolding(state::specs::Answers::sends))]
-fn write_to(f: Function, at: Target, dwords: u16, payload: &[u8], out: &mut [u8]) -> Effect
-    ensures { observed result out.new ≡ commit f out.old (write_to f at dwords payload.now out.old) }
+fn write_to(
+    f: &mut Function,
+    at: Target,
+    dwords: u16,
+    payload: &[u8],
+    out: &mut [u8],
+) -> Result<Effect, Refusal>
+    ensures { observed f.new result out.new ≡ commit f.old out.old (write_to f.old at dwords payload.now out.old) }
 {
-    let access = Access::Write;
-    let p = memory_request_packet(f.id, access, dwords, at);
-    match tlp::write_packet(p, payload, out) {
-        Writing::Written(n) => {
-            let answer = Answer::Done;
-            Effect {
-                state: f,
-                answer,
-                sent: n,
-            }
-        }
-        Writing::Refused(r) => state::refused(f, r),
-    }
-}
-
-fn read_on_a_tag(f: Function, at: Target, a: AccessArgs, payload: &[u8], out: &mut [u8]) -> Effect
-    requires { a.dwords ≤ 32 }
-    ensures { observed result out.new ≡ commit f out.old (sends_access f Direction.Read at a payload.now out.old) }
-{
-    let tags = f.tags;
-    let free = tags::lowest_free(tags);
-    match free {
-        FreeTag::Lowest(tag) => read_from(f, tag, at, a, payload, out),
-        FreeTag::NoneFree => state::refused(f, Refusal::NoFreeTag),
-    }
-}
-
-fn send_access(f: Function, at: Target, a: AccessArgs, payload: &[u8], out: &mut [u8]) -> Effect
-    requires { a.dwords ≤ 32 }
-    ensures { observed result out.new ≡ commit f out.old (sends_access f a.direction at a payload.now out.old) }
-{
-    let direction = a.direction;
-    match direction {
-        Direction::Read => read_on_a_tag(f, at, a, payload, out),
-        Direction::Write => write_to(f, at, a.dwords, payload, out),
-    }
+    let p = memory_request_packet(f.id, Access::Write, dwords, at);
+    let sent = tlp::write_packet(p, payload, out)?;
+    Ok(Effect {
+        answer: Answer::Done,
+        sent,
+    })
 }
 
 // Sends a read or a write.
-pub fn access(f: Function, a: AccessArgs, payload: &[u8], out: &mut [u8]) -> Effect
-    ensures { observed result out.new ≡ commit f out.old (accessing f a payload.now out.old) }
+#[tactic(auto, using(crate::proofs::Laws::few_dwords), unfolding(crate::specs::Access::accessing))]
+pub fn access(
+    f: &mut Function,
+    a: AccessArgs,
+    payload: &[u8],
+    out: &mut [u8],
+) -> Result<Effect, Refusal>
+    ensures { observed f.new result out.new ≡ commit f.old out.old (accessing f.old a payload.now out.old) }
 {
-    match look_up(f, a, payload.len()) {
-        Goes::To(at) => send_access(f, at, a, payload, out),
-        Goes::Refused(r) => state::refused(f, r),
+    let at = look_up(f, a, payload.len())?;
+    match a.direction {
+        Direction::Read => read_on(f, at, a, payload, out),
+        Direction::Write => write_to(f, at, a.dwords, payload, out),
     }
 }

@@ -1,12 +1,10 @@
 -- Ask. 01, "Ask".
-use Rattle.std.specs.Prelude.{Bool, ◌&&◌, List, [], ℕ, ◌+◌, ◌-◌, ◌*◌, ◌/◌, ◌^◌, leb}
+use Rattle.std.specs.Prelude.{Bool, ◌&&◌, List, [], ℕ, ◌+◌, ◌-◌, ◌*◌, ◌/◌, ◌^◌, leb, Err, None, Option, Result, Some}
 use Rattle.ranges.specs.Range.{unit_exponent, unit_bytes, region_of}
 use Rattle.packet.specs.declared.Tag.{Tag}
 use Rattle.packet.specs.declared.Packet.{Packet}
 use Rattle.packet.specs.declared.Body.TheVariants.{Tr}
-use Rattle.packet.specs.Numbers.{Result, refusal, check}
-use Rattle.tags.specs.declared.FreeTag.{FreeTag}
-use Rattle.tags.specs.declared.FreeTag.TheVariants.{Lowest, NoneFree}
+use Rattle.packet.specs.Numbers.{check}
 use Rattle.tags.specs.Tags.{free_tag, new_translation}
 use Rattle.translations.specs.declared.Rcb.{Rcb}
 use Rattle.translations.specs.Fits.{boundary}
@@ -34,18 +32,18 @@ translation_request_packet id t a =
       body = Tr (record { tag = t; dwords = 2 * a.units; address = a.address / 4096 * 4096; nowrite = a.nowrite });
     }
 
-abbrev pub ask_with_tag : Function → Tag → AskArgs → List ℕ → Result Success
+abbrev pub ask_with_tag : Function → Tag → AskArgs → List ℕ → Result Success ℕ
 ask_with_tag f t a out =
     sends (with_tag f t (new_translation a.address (a.units - 1) f.stu)) (tag t.0)
     (translation_request_packet f.id t a) [] out
 
 -- refused with 11 if no tag is free
-abbrev pub ask_on : Function → FreeTag → AskArgs → List ℕ → Result Success
-ask_on f (Lowest t) a out = ask_with_tag f t a out
-ask_on f NoneFree a out = refusal 11
+abbrev pub ask_on : Function → Option Tag → AskArgs → List ℕ → Result Success ℕ
+ask_on f (Some t) a out = ask_with_tag f t a out
+ask_on f None a out = Err 11
 
 -- refusals 6, 12, 11, 17 in this order
-unfoldable pub asking : Function → AskArgs → List ℕ → Result Success
+unfoldable pub asking : Function → AskArgs → List ℕ → Result Success ℕ
 asking f a out =
     check 6 f.enabled
     (check 12 (is_askable f.rcb f.stu a)

@@ -1,13 +1,13 @@
 // Ask: a Translation Request for some units.
 #![tactic(auto)]
 
-ghost use Rattle.std.specs.Prelude.{◌≡◌, ◌-◌, ◌≤◌};
+ghost use Rattle.std.specs.Prelude.{◌≡◌, ◌≤◌};
 ghost use Rattle.state.specs.Answers.{observed, commit};
-ghost use Rattle.call_ask.specs.Ask.{translation_request_packet, is_unit_count, is_below_top, is_askable, ask_with_tag, ask_on, asking};
+ghost use Rattle.call_ask.specs.Ask.{translation_request_packet, is_unit_count, is_below_top, is_askable, ask_on, asking};
+ghost use Rattle.tags.specs.Tags.{free_tag};
 
-use packet::{Body, Packet, Refusal, Tag, TranslationRequest, Writing};
+use packet::{Body, Packet, Refusal, Tag, TranslationRequest};
 use state::{Answer, Effect, Function};
-use tags::FreeTag;
 use translations::Rcb;
 
 // The arguments: the number of units from the one that holds an address on, and the No Write flag.
@@ -22,11 +22,7 @@ pub struct AskArgs {
 fn is_unit_count(rcb: Rcb, units: u16) -> bool
     ensures { result ≡ is_unit_count rcb units }
 {
-    if 1 <= units {
-        units <= translations::boundary_bytes(rcb) / 8
-    } else {
-        false
-    }
+    1 <= units && units <= translations::boundary_bytes(rcb) / 8
 }
 
 // Do the units from the one that holds an address on end at or below 2^64?
@@ -44,84 +40,52 @@ fn is_below_top(stu: u8, address: u64, units: u16) -> bool
 fn is_askable(rcb: Rcb, stu: u8, a: AskArgs) -> bool
     ensures { result ≡ is_askable rcb stu a }
 {
-    if is_unit_count(rcb, a.units) {
-        is_below_top(stu, a.address, a.units)
-    } else {
-        false
-    }
+    is_unit_count(rcb, a.units) && is_below_top(stu, a.address, a.units)
 }
 
 fn translation_request_packet(id: u16, tag: Tag, a: AskArgs) -> Packet
     requires { a.units ≤ 16 }
     ensures { result ≡ translation_request_packet id tag a }
 {
-    let body = Body::Tr(TranslationRequest {
-        tag,
-        dwords: 2 * a.units,
-        address: a.address / 4096 * 4096,
-        nowrite: a.nowrite,
-    });
     Packet {
         head: state::head(id),
-        body,
+        body: Body::Tr(TranslationRequest {
+            tag,
+            dwords: 2 * a.units,
+            address: a.address / 4096 * 4096,
+            nowrite: a.nowrite,
+        }),
     }
 }
 
-fn further(units: u16) -> u8
-    requires { units ≤ 16 }
-    ensures { result ≡ units - 1 }
-{
-    if units == 0 { 0 } else { (units - 1) as u8 }
-}
-
+// Sends a Translation Request on the lowest free tag.
 #[tactic(auto, unfolding(state::specs::Answers::sends))]
-fn ask_with_tag(f: Function, tag: Tag, a: AskArgs, out: &mut [u8]) -> Effect
-    requires { a.units ≤ 16 }
-    ensures { observed result out.new ≡ commit f out.old (ask_with_tag f tag a out.old) }
+fn ask_on(f: &mut Function, a: AskArgs, out: &mut [u8]) -> Result<Effect, Refusal>
+    requires { (1 ≤ a.units) × (a.units ≤ 16) }
+    ensures { observed f.new result out.new ≡ commit f.old out.old (ask_on f.old (free_tag f.old.tags) a out.old) }
 {
-    let none: [u8; 0] = [0; 0];
-    let p = translation_request_packet(f.id, tag, a);
-    match tlp::write_packet(p, &none, out) {
-        Writing::Written(n) => {
-            let o = tags::new_translation(a.address, further(a.units), f.stu);
-            let answer = Answer::Opened(tag);
-            Effect {
-                state: state::with_tag(f, tag, o),
-                answer,
-                sent: n,
-            }
-        }
-        Writing::Refused(r) => state::refused(f, r),
-    }
-}
-
-fn ask_on(f: Function, free: FreeTag, a: AskArgs, out: &mut [u8]) -> Effect
-    requires { a.units ≤ 16 }
-    ensures { observed result out.new ≡ commit f out.old (ask_on f free a out.old) }
-{
-    match free {
-        FreeTag::Lowest(tag) => ask_with_tag(f, tag, a, out),
-        FreeTag::NoneFree => state::refused(f, Refusal::NoFreeTag),
-    }
+    let Some(tag) = tags::lowest_free(&f.tags) else {
+        return Err(Refusal::NoFreeTag);
+    };
+    let sent = tlp::write_packet(translation_request_packet(f.id, tag, a), &[], out)?;
+    let pending = tags::new_translation(a.address, (a.units - 1) as u8, f.stu);
+    tags::set_tag(&mut f.tags, tag, pending);
+    Ok(Effect {
+        answer: Answer::Opened(tag),
+        sent,
+    })
 }
 
 // Sends a Translation Request.
 #[tactic(auto, using(state::proofs::Commits::commits, crate::proofs::AskLaws::few_units), unfolding(crate::specs::Ask::asking))]
-pub fn ask(f: Function, a: AskArgs, out: &mut [u8]) -> Effect
-    ensures { observed result out.new ≡ commit f out.old (asking f a out.old) }
+pub fn ask(f: &mut Function, a: AskArgs, out: &mut [u8]) -> Result<Effect, Refusal>
+    ensures { observed f.new result out.new ≡ commit f.old out.old (asking f.old a out.old) }
 {
-    let rcb = f.rcb;
-    let tags = f.tags;
-    let askable = is_askable(rcb, f.stu, a);
-    let free = tags::lowest_free(tags);
-    let enabled = f.enabled;
-    if enabled {
-        if askable {
-            ask_on(f, free, a, out)
-        } else {
-            state::refused(f, Refusal::BadArgument)
-        }
-    } else {
-        state::refused(f, Refusal::Disabled)
+    if !f.enabled {
+        return Err(Refusal::Disabled);
     }
+    if !is_askable(f.rcb, f.stu, a) {
+        return Err(Refusal::BadArgument);
+    }
+    ask_on(f, a, out)
 }

@@ -1,9 +1,9 @@
 -- Page requests. 01, "Page requests".
-use Rattle.std.specs.Prelude.{Bool, ◌&&◌, ◌||◌, List, [], ℕ, ◌%◌, eqb}
+use Rattle.std.specs.Prelude.{Bool, ◌&&◌, ◌||◌, List, [], ℕ, ◌%◌, eqb, Err, Result}
 use Rattle.packet.specs.declared.Packet.{Packet}
 use Rattle.packet.specs.declared.PageRequest.{PageRequest}
 use Rattle.packet.specs.declared.Body.TheVariants.{Prq}
-use Rattle.packet.specs.Numbers.{Result, refusal, refuse, check}
+use Rattle.packet.specs.Numbers.{refuse, check}
 use Rattle.pages.specs.declared.Interface.{Interface}
 use Rattle.pages.specs.declared.Interface.TheVariants.{Off, On, Stopped}
 use Rattle.pages.specs.declared.Pages.{Pages}
@@ -24,7 +24,7 @@ abbrev pub with_request : Pages → PageRequest → Pages
 with_request p q = with_groups p (request_added p.groups q.index q.last)
 
 -- with the interface on: refused with 12; with 16 if the group waits or no credit is left; with 17
-unfoldable pub requesting_on : Function → PageRequest → List ℕ → Result Success
+unfoldable pub requesting_on : Function → PageRequest → List ℕ → Result Success ℕ
 requesting_on f q out =
     check 12 (is_valid_request q)
     (refuse 16 (is_waiting f.pages.groups q.index)
@@ -32,7 +32,7 @@ requesting_on f q out =
     (sends (with_pages f (with_request f.pages q)) done (page_request_packet f.id q) [] out)))
 
 -- refused with 15 if the interface is off or stopped
-abbrev pub requesting : Function → PageRequest → List ℕ → Interface → Result Success
-requesting f q out Off = refusal 15
+abbrev pub requesting : Function → PageRequest → List ℕ → Interface → Result Success ℕ
+requesting f q out Off = Err 15
 requesting f q out On = requesting_on f q out
-requesting f q out Stopped = refusal 15
+requesting f q out Stopped = Err 15

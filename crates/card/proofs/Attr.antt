@@ -1,10 +1,10 @@
 -- The Function decides nothing by Attr, and sends zeros in it.
+use Rattle.std.specs.Prelude.{Err, Ok, Result}
 use mathlib.Core.Path.{◌≡◌, refl, ap, ◌∙◌}
 use mathlib.Core.List.{List, [], ◌++◌}
 use Prim.Native.Nat.{ℕ}
 use lib.ListN.{length, take, drop}
 use Rattle.packet.specs.declared.Packet.{Packet}
-use Rattle.packet.specs.Numbers.{Result, ok, refusal}
 use Rattle.packet.specs.Frames.{attr_at}
 use Rattle.packet.specs.Kinds.{attr_in, attr_bits}
 use Rattle.packet.specs.SameButAttr.{SameButAttr}
@@ -79,9 +79,9 @@ module _ (f : Function) (bytes out : List ℕ) where
         stops_pages = λ s a. silent _ _;
       }
 
-  committed : (s : Result Success) → Does Clear s → attr_at (take (commit f out s).sent (commit f out s).buffer) ≡ 0
-  committed (ok d) h = h.success d refl
-  committed (refusal n) h = refl
+  committed : (s : Result Success ℕ) → Does Clear s → attr_at (take (commit f out s).sent (commit f out s).buffer) ≡ 0
+  committed (Ok d) h = h.success d refl
+  committed (Err n) h = refl
 
   clear_call : (c : Command) → attr_at (sent_by f c bytes out) ≡ 0
   clear_call c = committed (calling f c bytes out) (cases f bytes out _ clear_cases c)

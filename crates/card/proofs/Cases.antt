@@ -1,4 +1,5 @@
 -- Every way in which a call can end, with what is known there. What holds in each case holds for every call.
+use Rattle.std.specs.Prelude.{Err, None, Ok, Option, Result, Some}
 use mathlib.Core.Path.{◌≡◌, refl}
 use mathlib.Core.Bool.{Bool, true, false}
 use mathlib.Core.List.{List, [], ◌∷◌}
@@ -16,7 +17,7 @@ use Rattle.packet.specs.declared.Outcome.TheVariants.{Data, Status}
 use Rattle.packet.specs.declared.InvalidateRequest.{InvalidateRequest}
 use Rattle.packet.specs.declared.PageRequest.{PageRequest}
 use Rattle.packet.specs.declared.PrgResponse.{PrgResponse}
-use Rattle.packet.specs.Numbers.{Result, ok, refusal, check, refuse}
+use Rattle.packet.specs.Numbers.{check, refuse}
 use Rattle.packet.specs.Among.{is_among}
 use Rattle.packet.proofs.Among.{Among, every_one_lem, reading_numbers}
 use Rattle.packet.specs.Reading.{reading, payload_in}
@@ -25,8 +26,6 @@ use Rattle.tags.specs.declared.TagState.{TagState}
 use Rattle.tags.specs.declared.TagState.TheVariants.{Free, Translate, Read}
 use Rattle.tags.specs.declared.PendingTranslation.{PendingTranslation}
 use Rattle.tags.specs.declared.PendingRead.{PendingRead}
-use Rattle.tags.specs.declared.FreeTag.{FreeTag}
-use Rattle.tags.specs.declared.FreeTag.TheVariants.{Lowest, NoneFree}
 use Rattle.tags.specs.Itags.{is_in, without}
 use Rattle.tags.specs.Tags.{free_tag, tag_state, all_stale}
 use Rattle.pages.specs.declared.Interface.{Interface}
@@ -76,7 +75,7 @@ numbers_of_kind (Prs s) = 5 ∷ 7 ∷ []
 -- a packet for this Function is received
 pub record Arrives (f : Function) (bytes : List ℕ) (body : Body) (to : ℕ) : Type 0 where
   pub packet : Packet
-  pub reads : reading bytes ≡ ok packet
+  pub reads : reading bytes ≡ Ok packet
   pub is : packet.body ≡ body
   pub ours : eqb to f.id ≡ true
 
@@ -91,10 +90,10 @@ module _ (f : Function) (bytes out : List ℕ) where
   abbrev load : List ℕ
   load = payload_in bytes
 
-  pub record Cases (P : Command → Result Success → Type 0) : Type 0 where
-    pub refused : (c : Command) (n : ℕ) → is_among n (numbers_of c) ≡ true → P c (refusal n)
-    pub refused_kind : (p : Packet) → reading bytes ≡ ok p → (n : ℕ) → is_among n (numbers_of_kind p.body) ≡ true
-        → P Receive (refusal n)
+  pub record Cases (P : Command → Result Success ℕ → Type 0) : Type 0 where
+    pub refused : (c : Command) (n : ℕ) → is_among n (numbers_of c) ≡ true → P c (Err n)
+    pub refused_kind : (p : Packet) → reading bytes ≡ Ok p → (n : ℕ) → is_among n (numbers_of_kind p.body) ≡ true
+        → P Receive (Err n)
     -- calls that neither send nor receive
     pub reset : (a : ResetArgs) → leb a.stu 31 ≡ true → is_rcb a.rcb ≡ true
         → P (Reset a) (sends_nothing (fresh a.id a.stu (rcb_of a.rcb)) done)
@@ -106,11 +105,11 @@ module _ (f : Function) (bytes out : List ℕ) where
     pub pages_off : P PagesOff (sends_nothing (with_pages f switched_off) done)
     pub pages_not_on : P PagesOff (sends_nothing f done)
     -- calls that send, if there is room
-    pub ask : (a : AskArgs) (t : Tag) → is_askable f.rcb f.stu a ≡ true → free_tag f.tags ≡ Lowest t
+    pub ask : (a : AskArgs) (t : Tag) → is_askable f.rcb f.stu a ≡ true → free_tag f.tags ≡ Some t
         → P (Asks a) (ask_with_tag f t a out)
-    pub read : (a : AccessArgs) (at : Target) (t : Tag) → a.direction ≡ ToRead → looking_up f a (length bytes) ≡ ok at
-        → free_tag f.tags ≡ Lowest t → P (Access a) (read_from f t at a bytes out)
-    pub write : (a : AccessArgs) (at : Target) → a.direction ≡ ToWrite → looking_up f a (length bytes) ≡ ok at
+    pub read : (a : AccessArgs) (at : Target) (t : Tag) → a.direction ≡ ToRead → looking_up f a (length bytes) ≡ Ok at
+        → free_tag f.tags ≡ Some t → P (Access a) (read_from f t at a bytes out)
+    pub write : (a : AccessArgs) (at : Target) → a.direction ≡ ToWrite → looking_up f a (length bytes) ≡ Ok at
         → P (Access a) (write_to f at a.dwords bytes out)
     pub drains_none : eqb (ready_of f) 0 ≡ true → P Drain (sends_nothing f (carries 0))
     pub drains : eqb (ready_of f) 0 ≡ false
@@ -162,15 +161,15 @@ module _ (f : Function) (bytes out : List ℕ) where
     pub stops_pages : (s : PrgResponse) → Arrives f bytes (Prs s) s.device
         → P Receive (sends_nothing (with_pages f stopped) done)
 
-module _ (f : Function) (bytes out : List ℕ) (P : Command → Result Success → Type 0) (k : Cases f bytes out P) where
+module _ (f : Function) (bytes out : List ℕ) (P : Command → Result Success ℕ → Type 0) (k : Cases f bytes out P) where
   -- a test before further ones: it refuses if it fails, or if it holds
-  needs : (c : Command) (n : ℕ) → is_among n (numbers_of c) ≡ true → (t : Bool) (s : Result Success) → (t ≡ true → P c s)
+  needs : (c : Command) (n : ℕ) → is_among n (numbers_of c) ≡ true → (t : Bool) (s : Result Success ℕ) → (t ≡ true → P c s)
       → P c (check n t s)
-  needs c n l t s h = either_case (P c) t s (refusal n) h (λ e. k.refused c n l)
+  needs c n l t s h = either_case (P c) t s (Err n) h (λ e. k.refused c n l)
 
-  unless : (c : Command) (n : ℕ) → is_among n (numbers_of c) ≡ true → (t : Bool) (s : Result Success)
+  unless : (c : Command) (n : ℕ) → is_among n (numbers_of c) ≡ true → (t : Bool) (s : Result Success ℕ)
       → (t ≡ false → P c s) → P c (refuse n t s)
-  unless c n l t s h = either_case (P c) t (refusal n) s (λ e. k.refused c n l) h
+  unless c n l t s h = either_case (P c) t (Err n) s (λ e. k.refused c n l) h
 
   resets : (a : ResetArgs) → P (Reset a) (resetting a)
   unfolding resetting
@@ -201,28 +200,28 @@ module _ (f : Function) (bytes out : List ℕ) (P : Command → Result Success �
   unfolding asking
   asks a = needs (Asks a) 6 refl f.enabled _ (λ e. needs (Asks a) 12 refl (is_askable f.rcb f.stu a) _ (λ few. on few (free_tag f.tags) refl))
     where
-      on : is_askable f.rcb f.stu a ≡ true → (x : FreeTag) → free_tag f.tags ≡ x → P (Asks a) (ask_on f x a out)
-      on few (Lowest t) e = k.ask a t few e
-      on few NoneFree e = k.refused (Asks a) 11 refl
+      on : is_askable f.rcb f.stu a ≡ true → (x : Option Tag) → free_tag f.tags ≡ x → P (Asks a) (ask_on f x a out)
+      on few (Some t) e = k.ask a t few e
+      on few None e = k.refused (Asks a) 11 refl
 
   accesses : (a : AccessArgs) → P (Access a) (accessing f a bytes out)
   unfolding accessing
   accesses a = go (looking_up f a (length bytes)) refl (looking_up_numbers f a (length bytes))
     where
-      on : (at : Target) → a.direction ≡ ToRead → looking_up f a (length bytes) ≡ ok at → (x : FreeTag)
+      on : (at : Target) → a.direction ≡ ToRead → looking_up f a (length bytes) ≡ Ok at → (x : Option Tag)
           → free_tag f.tags ≡ x → P (Access a) (read_on f x at a bytes out)
-      on at w e (Lowest t) free = k.read a at t w e free
-      on at w e NoneFree free = k.refused (Access a) 11 refl
+      on at w e (Some t) free = k.read a at t w e free
+      on at w e None free = k.refused (Access a) 11 refl
 
-      goes : (at : Target) → looking_up f a (length bytes) ≡ ok at → (direction : Direction) → a.direction ≡ direction
+      goes : (at : Target) → looking_up f a (length bytes) ≡ Ok at → (direction : Direction) → a.direction ≡ direction
           → P (Access a) (sends_access f direction at a bytes out)
       goes at e ToRead w = on at w e (free_tag f.tags) refl
       goes at e ToWrite w = k.write a at w e
 
-      go : (s : Result Target) → looking_up f a (length bytes) ≡ s → Among (6 ∷ 12 ∷ 13 ∷ 14 ∷ []) s
+      go : (s : Result Target ℕ) → looking_up f a (length bytes) ≡ s → Among (6 ∷ 12 ∷ 13 ∷ 14 ∷ []) s
           → P (Access a) (sends_access_if f a bytes out s)
-      go (ok at) e h = goes at e a.direction refl
-      go (refusal n) e h = k.refused (Access a) n (every_one_lem (λ m. is_among m (numbers_of (Access a))) (6 ∷ 12 ∷ 13 ∷ 14 ∷ []) n refl (h.one n refl))
+      go (Ok at) e h = goes at e a.direction refl
+      go (Err n) e h = k.refused (Access a) n (every_one_lem (λ m. is_among m (numbers_of (Access a))) (6 ∷ 12 ∷ 13 ∷ 14 ∷ []) n refl (h.one n refl))
 
   draining_by : P Drain (draining f out)
   unfolding sends_vector
@@ -239,8 +238,8 @@ module _ (f : Function) (bytes out : List ℕ) (P : Command → Result Success �
 
   -- ---- a packet that was read
 
-  module _ (p : Packet) (e : reading bytes ≡ ok p) where
-    kind : (n : ℕ) (b : Body) → p.body ≡ b → is_among n (numbers_of_kind b) ≡ true → P Receive (refusal n)
+  module _ (p : Packet) (e : reading bytes ≡ Ok p) where
+    kind : (n : ℕ) (b : Body) → p.body ≡ b → is_among n (numbers_of_kind b) ≡ true → P Receive (Err n)
     kind n b is l = k.refused_kind p e n (rw is l)
 
     module _ (x : Completion) (is : p.body ≡ Cpl x) (ours : eqb x.requester f.id ≡ true) where
@@ -312,10 +311,10 @@ module _ (f : Function) (bytes out : List ℕ) (P : Command → Result Success �
   unfolding received
   receives = go (reading bytes) refl (reading_numbers bytes)
     where
-      go : (s : Result Packet) → reading bytes ≡ s → Among (1 ∷ 2 ∷ 3 ∷ 4 ∷ []) s
+      go : (s : Result Packet ℕ) → reading bytes ≡ s → Among (1 ∷ 2 ∷ 3 ∷ 4 ∷ []) s
           → P Receive (taken_if f (payload_in bytes) s)
-      go (ok p) e h = takes p e p.body refl
-      go (refusal n) e h = k.refused Receive n (every_one_lem (λ m. is_among m (numbers_of Receive)) (1 ∷ 2 ∷ 3 ∷ 4 ∷ []) n refl (h.one n refl))
+      go (Ok p) e h = takes p e p.body refl
+      go (Err n) e h = k.refused Receive n (every_one_lem (λ m. is_among m (numbers_of Receive)) (1 ∷ 2 ∷ 3 ∷ 4 ∷ []) n refl (h.one n refl))
 
   pub cases : (c : Command) → P c (calling f c bytes out)
   unfolding calling

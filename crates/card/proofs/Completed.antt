@@ -1,4 +1,5 @@
 -- What a received completion changes.
+use Rattle.std.specs.Prelude.{Err, None, Ok, Result}
 use mathlib.Core.Path.{◌≡◌, refl, sym, ◌∙◌}
 use mathlib.Core.Bool.{true, false}
 use mathlib.Core.List.{List}
@@ -8,10 +9,8 @@ use lib.Dec.{eqb}
 use Rattle.lemmas.proofs.Cases.{never_both, impossible}
 use Rattle.packet.specs.declared.Completion.{Completion}
 use Rattle.packet.specs.declared.ITag.{ITag}
-use Rattle.packet.specs.Numbers.{Result, ok, refusal}
 use Rattle.packet.proofs.Laws.{ok_injective}
 use Rattle.packet.specs.Reading.{payload_in}
-use Rattle.atc.specs.declared.Found.TheVariants.{Miss}
 use Rattle.atc.specs.Cache.{found}
 use Rattle.tags.specs.declared.PendingTranslation.{PendingTranslation}
 use Rattle.tags.specs.declared.PendingRead.{PendingRead}
@@ -42,7 +41,7 @@ module _ (f : Function) (bytes out : List ℕ) (c : Completion) (comes : Complet
   does_received : (Q : Success → Type 0) → Does Q (completed f c (payload_in bytes))
       → Does Q (calling f Receive bytes out)
   unfolding calling received taken
-  does_received Q k = rw (comes.reads, comes.body) (does_case Q (eqb c.requester f.id) (completed f c (payload_in bytes)) (refusal 5) (λ e. k) (λ e. does_refusal Q 5))
+  does_received Q k = rw (comes.reads, comes.body) (does_case Q (eqb c.requester f.id) (completed f c (payload_in bytes)) (Err 5) (λ e. k) (λ e. does_refusal Q 5))
 
   -- with E clear, for a stale request, and for a read, it changes neither a slot nor the hand
   pub completion_spares : ((q : PendingTranslation) → tag_state f.tags c.tag ≡ Translate q → is_live f q ≡ false)
@@ -54,22 +53,22 @@ module _ (f : Function) (bytes out : List ℕ) (c : Completion) (comes : Complet
   -- a unit outside the range of its request gets no new entry: it keeps its own or loses it
   pub completion_outside : Sound f → (unit : ℕ)
       → ((q : PendingTranslation) → tag_state f.tags c.tag ≡ Translate q → Inside (translation_range q) unit → ⊥)
-      → (found state_after.cache unit ≡ found f.cache unit) ⊎ (found state_after.cache unit ≡ Miss)
+      → (found state_after.cache unit ≡ found f.cache unit) ⊎ (found state_after.cache unit ≡ None)
   completion_outside h unit outside =
-      commit_in (λ g. (found g.cache unit ≡ found f.cache unit) ⊎ (found g.cache unit ≡ Miss)) f out (calling f Receive bytes out) (inl refl)
-      (does_received _ (completed_keeps f c (payload_in bytes) (λ k l p. (found k unit ≡ found f.cache unit) ⊎ (found k unit ≡ Miss)) (λ o. inl refl)
+      commit_in (λ g. (found g.cache unit ≡ found f.cache unit) ⊎ (found g.cache unit ≡ None)) f out (calling f Receive bytes out) (inl refl)
+      (does_received _ (completed_keeps f c (payload_in bytes) (λ k l p. (found k unit ≡ found f.cache unit) ⊎ (found k unit ≡ None)) (λ o. inl refl)
       (λ q o e live. applied_outside q (payload_in bytes) f.cache h.cache unit (outside q e))))
 
   -- an unrefused completion that ends a read
-  module _ (r : PendingRead) (held : tag_state f.tags c.tag ≡ Read r) (w : Unrefused) (says : (step f Receive bytes out).answer ≡ ok w) (ends : w ≡ payload_more → ⊥) where
+  module _ (r : PendingRead) (held : tag_state f.tags c.tag ≡ Read r) (w : Unrefused) (says : (step f Receive bytes out).answer ≡ Ok w) (ends : w ≡ payload_more → ⊥) where
     -- frees the read's tag and changes nothing else,
     pub read_ended : state_after ≡ with_tag f c.tag Free
     read_ended = go (calling f Receive bytes out) (does_received _ (completed_read f c (payload_in bytes) r held)) says
       where
-        go : (s : Result Success) → Does (Ended f c (payload_in bytes) r) s → (commit f out s).answer ≡ ok w
+        go : (s : Result Success ℕ) → Does (Ended f c (payload_in bytes) r) s → (commit f out s).answer ≡ Ok w
             → (commit f out s).state ≡ with_tag f c.tag Free
-        go (ok d) k q = ⊎_elim (λ a. a) (λ a. absurd (ends (sym (ok_injective q) ∙ a.0))) (k.success d refl)
-        go (refusal n) k q = impossible cc
+        go (Ok d) k q = ⊎_elim (λ a. a) (λ a. absurd (ends (sym (ok_injective q) ∙ a.0))) (k.success d refl)
+        go (Err n) k q = impossible cc
 
     -- so that afterwards an ITag is ready if and only if it waits and no other read delays it
     pub ended_ready : Sound f → (i : ITag)

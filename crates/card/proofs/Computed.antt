@@ -2,8 +2,6 @@
 -- computed`, which unfolds all of them.
 use Prim.Native.Nat.{ℕ}
 use Rattle.lemmas.specs.All.{all_below}
-use Rattle.lemmas.specs.First.{first_index}
-use Rattle.lemmas.specs.Fold.{fold_map}
 use Rattle.lemmas.specs.Iterate.{iterate}
 use Rattle.ranges.specs.Range.{region_of, rounded_of, range_from, units_from, relocated}
 use Rattle.ranges.specs.Size.{lowest_zero, size_of, translation_of}
@@ -33,5 +31,5 @@ use Rattle.call_receive.specs.Receive.{taken, received}
 use Rattle.card.specs.Call.{calling}
 
 unfoldable pub computed : ℕ
-unfolding all_below first_index fold_map iterate region_of rounded_of range_from units_from relocated lowest_zero size_of translation_of choose decode_frame body_in well_formed allowed_body body_in_range payload_length form_of packet_frame read_form reading payload_in qword_at bytes_of writing translation_at is_in with_itag without free_tag tag_state set_tag translation_range read_range pending_overlaps invalidated_tags all_stale delayed_itags found filled_with unit_dropped range_dropped is_waiting used_credits is_spent request_added unit_updated updated_if_covered updated_at applied on_boundary first_part second_part part_of common_size begins_in received_count translation_fits all_fit size_fits classified sends resetting enabling disabling switching_on completed on_read_data on_read_status applied_if_live on_translation_data on_translation_status looking_up accessing requesting_on is_below_top is_askable asking sends_vector invalidated_range invalidated taken received calling
+unfolding all_below iterate region_of rounded_of range_from units_from relocated lowest_zero size_of translation_of choose decode_frame body_in well_formed allowed_body body_in_range payload_length form_of packet_frame read_form reading payload_in qword_at bytes_of writing translation_at is_in with_itag without free_tag tag_state set_tag translation_range read_range pending_overlaps invalidated_tags all_stale delayed_itags found filled_with unit_dropped range_dropped is_waiting used_credits is_spent request_added unit_updated updated_if_covered updated_at applied on_boundary first_part second_part part_of common_size begins_in received_count translation_fits all_fit size_fits classified sends resetting enabling disabling switching_on completed on_read_data on_read_status applied_if_live on_translation_data on_translation_status looking_up accessing requesting_on is_below_top is_askable asking sends_vector invalidated_range invalidated taken received calling
 computed = 0

@@ -1,4 +1,5 @@
 -- The invariant that every call preserves, and what can enter the cache.
+use Rattle.std.specs.Prelude.{None, Option, Some}
 use mathlib.Core.Path.{◌≡◌, refl, sym, ap, ◌∙◌}
 use mathlib.Core.Bool.{true}
 use mathlib.Core.List.{List}
@@ -8,14 +9,14 @@ use native.Mathlib.Omega.{arith}
 use lib.Dec.{leb, lit≤}
 use lib.ListN.{length}
 use borrow.Author.Tests.{leb-true}
-use Rattle.lemmas.proofs.Cases.{by_cases, and_both, never_both}
+use Rattle.lemmas.proofs.Cases.{by_cases, and_both}
+use Rattle.lemmas.proofs.Bools.{no_some}
 use Rattle.packet.specs.declared.Completion.{Completion}
 use Rattle.packet.specs.Reading.{payload_in}
+use Rattle.ranges.specs.declared.Range.{Range}
 use Rattle.atc.specs.declared.Entry.{Entry}
 use Rattle.atc.specs.declared.Cache.{Cache}
-use Rattle.atc.specs.declared.Found.{Found}
-use Rattle.atc.specs.declared.Found.TheVariants.{Hit, Miss}
-use Rattle.atc.specs.Cache.{no_entry, found, entry_at, entry_overlaps, SoundCache}
+use Rattle.atc.specs.Cache.{found, entry_at, entry_overlaps, entry_dropped, SoundCache}
 use Rattle.atc.proofs.Laws.{laws}
 use Rattle.tags.specs.declared.TagState.TheVariants.{Translate}
 use Rattle.tags.specs.declared.PendingTranslation.{PendingTranslation}
@@ -89,11 +90,11 @@ module _ (f : Function) (c : Command) (bytes out : List ℕ) where
   -- after a call each slot is unchanged, or free, or holds such an entry
   pub slot_after : SoundCache f.cache → (i : ℕ)
       → (entry_at slots_after i ≡ entry_at f.cache i)
-      ⊎ ((entry_at slots_after i ≡ no_entry) ⊎ Came f c bytes (entry_at slots_after i))
+      ⊎ ((entry_at slots_after i ≡ None) ⊎ ((x : Entry) × (entry_at slots_after i ≡ Some x) × Came f c bytes x))
   slot_after sound i = step_keeps f c bytes (λ d l p. From (entry_at d i)) kept out
     where
-      From : Entry → Type 0
-      From x = (x ≡ entry_at f.cache i) ⊎ ((x ≡ no_entry) ⊎ Came f c bytes x)
+      From : Option Entry → Type 0
+      From slot = (slot ≡ entry_at f.cache i) ⊎ ((slot ≡ None) ⊎ ((x : Entry) × (slot ≡ Some x) × Came f c bytes x))
 
       kept : Stable f c bytes (λ d l p. From (entry_at d i))
       kept =
@@ -102,34 +103,39 @@ module _ (f : Function) (c : Command) (bytes out : List ℕ) where
             reset = inr (inl (laws.new_entry i));
             enable = inr (inl (laws.empty_entry f.cache i));
             tag = λ t o. inl refl;
-            fill = λ x q o r e live. ⊎_elim inl (λ s. inr (⊎_elim inl (λ b. inr (record { completion = x; comes = r; request = q; held = e; live = live; brought = b })) s)) (applied_entry q (payload_in bytes) f.cache sound i);
-            invalidate = λ range itag. rw (laws.range_entry f.stu range f.cache sound i) (by_cases (entry_overlaps f.stu range (entry_at f.cache i)) (λ u. rw u (inr (inl refl))) (λ u. rw u (inl refl)));
+            fill = λ x q o r e live. ⊎_elim inl (λ s. inr (⊎_elim inl (λ b. inr (b.0, b.1, record { completion = x; comes = r; request = q; held = e; live = live; brought = b.2 })) s)) (applied_entry q (payload_in bytes) f.cache sound i);
+            invalidate = λ range itag. rw (laws.range_entry f.stu range f.cache sound i) (left range (entry_at f.cache i) refl);
             switch_on = λ allocation g. inl refl;
             switch_off = inl refl;
             stop = inl refl;
             request = λ q g. inl refl;
             answer = λ k. inl refl;
           }
+        where
+          left : (range : Range) (slot : Option Entry) → slot ≡ entry_at f.cache i → From (entry_dropped f.stu range slot)
+          left range None e = inl e
+          left range (Some x) e = by_cases (entry_overlaps f.stu range x) (λ u. rw u (inr (inl refl))) (λ u. rw u (inl e))
 
   -- so that each unit has its old entry, or none, or such an entry
   pub entry_after : Sound f → (unit : ℕ)
       → (found slots_after unit ≡ found f.cache unit)
-      ⊎ ((found slots_after unit ≡ Miss) ⊎ ((x : Entry) × ((found slots_after unit ≡ Hit x) × Came f c bytes x)))
+      ⊎ ((found slots_after unit ≡ None) ⊎ ((x : Entry) × ((found slots_after unit ≡ Some x) × Came f c bytes x)))
   entry_after h unit = go (found slots_after unit) refl
     where
-      go : (r : Found) → found slots_after unit ≡ r
+      go : (r : Option Entry) → found slots_after unit ≡ r
           → (found slots_after unit ≡ found f.cache unit)
-          ⊎ ((found slots_after unit ≡ Miss) ⊎ ((x : Entry) × ((found slots_after unit ≡ Hit x) × Came f c bytes x)))
-      go Miss e = inr (inl e)
-      go (Hit x) e =
+          ⊎ ((found slots_after unit ≡ None) ⊎ ((x : Entry) × ((found slots_after unit ≡ Some x) × Came f c bytes x)))
+      go None e = inr (inl e)
+      go (Some x) e =
           let s = laws.found_is slots_after (sound_invariant f c bytes out h).cache unit x e in
-          let i = s.2.0 in
-          let there : entry_at slots_after i ≡ x = s.2.1 in
+          let i = s.1.0 in
+          let there : entry_at slots_after i ≡ Some x = s.1.1 in
           ⊎_elim
-          (λ a. let old : entry_at f.cache i ≡ x = sym a ∙ there in
-          let was : found f.cache x.unit ≡ Hit x = rw old at (laws.found_only f.cache h.cache i (rw old s.0)) in
-          inl (e ∙ sym (ap (found f.cache) (sym s.1) ∙ was)))
+          (λ a. let was : found f.cache x.unit ≡ Some x = laws.found_only f.cache h.cache i x (sym a ∙ there) in
+          inl (e ∙ sym (ap (found f.cache) (sym s.0) ∙ was)))
           (⊎_elim
-          (λ a. let none : x ≡ no_entry = sym there ∙ a in absurd (never_both _ s.0 (rw none)))
-          (λ a. inr (inr (x, (e, rw there at a)))))
+          (λ a. no_some (sym a ∙ there))
+          (λ a. let same : Some a.0 ≡ Some x = sym a.1 ∙ there in
+          let is : a.0 ≡ x = cc in
+          inr (inr (x, (e, rw (← is) a.2)))))
           (slot_after h.cache i)

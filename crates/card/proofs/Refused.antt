@@ -1,4 +1,5 @@
 -- A refused call changes nothing, and its number is one of those that 01 gives for the call.
+use Rattle.std.specs.Prelude.{Err, Ok, Result}
 use mathlib.Core.Path.{◌≡◌, refl, ap}
 use mathlib.Core.Bool.{true, ◌&&◌, ◌||◌}
 use mathlib.Core.List.{List, []}
@@ -10,7 +11,6 @@ use borrow.Author.Tests.{leb-true, eqb-true, ltb-true}
 use Rattle.lemmas.proofs.Cases.{and_both, impossible}
 use Rattle.packet.specs.declared.Body.{Body}
 use Rattle.packet.specs.declared.Body.TheVariants.{Tr, Mem, Cpl, Inv, Ic, Prq, Prs}
-use Rattle.packet.specs.Numbers.{Result, ok, refusal}
 use Rattle.packet.specs.Among.{is_among}
 use Rattle.packet.proofs.Among.{Among, among_ok, among_refusal, every_one, every_one_lem, tr_sendable, read_sendable, write_sendable, ic_sendable, prq_sendable}
 use Rattle.pages.specs.Pages.{is_index}
@@ -27,14 +27,14 @@ use Rattle.card.specs.Call.{calling, step}
 use Rattle.card.proofs.Cases.{numbers_of_kind, Cases, cases}
 
 -- A refused call leaves the state and the buffer unchanged, and sends nothing.
-pub refused_keeps : (f : Function) (c : Command) (bytes out : List ℕ) (n : ℕ) → (step f c bytes out).answer ≡ refusal n
+pub refused_keeps : (f : Function) (c : Command) (bytes out : List ℕ) (n : ℕ) → (step f c bytes out).answer ≡ Err n
     → ((step f c bytes out).state ≡ f) × ((step f c bytes out).sent ≡ 0) × ((step f c bytes out).buffer ≡ out)
 refused_keeps f c bytes out n = go (calling f c bytes out)
   where
-    go : (s : Result Success) → (commit f out s).answer ≡ refusal n
+    go : (s : Result Success ℕ) → (commit f out s).answer ≡ Err n
         → ((commit f out s).state ≡ f) × ((commit f out s).sent ≡ 0) × ((commit f out s).buffer ≡ out)
-    go (ok d) e = impossible cc
-    go (refusal m) e = (refl, refl, refl)
+    go (Ok d) e = impossible cc
+    go (Err m) e = (refl, refl, refl)
 
 -- a packet that is read and then refused gets a number of its kind's list, which is part of the call's list
 kinds : (b : Body) → every_one (λ n. is_among n (numbers_of Receive)) (numbers_of_kind b) ≡ true
@@ -89,14 +89,14 @@ calling_numbers : (f : Function) (c : Command) (bytes out : List ℕ) → Among 
 calling_numbers f c bytes out = cases f bytes out _ (fits_call f bytes out) c
 
 -- A call is refused only with a number of its own list,
-pub refused_with_lem : (f : Function) (c : Command) (bytes out : List ℕ) (n : ℕ) → (step f c bytes out).answer ≡ refusal n
+pub refused_with_lem : (f : Function) (c : Command) (bytes out : List ℕ) (n : ℕ) → (step f c bytes out).answer ≡ Err n
     → is_among n (numbers_of c) ≡ true
 refused_with_lem f c bytes out n e = go (calling f c bytes out) (calling_numbers f c bytes out) e
   where
-    go : (s : Result Success) → Among (numbers_of c) s → (commit f out s).answer ≡ refusal n
+    go : (s : Result Success ℕ) → Among (numbers_of c) s → (commit f out s).answer ≡ Err n
         → is_among n (numbers_of c) ≡ true
-    go (ok d) h q = impossible cc
-    go (refusal m) h q = h.one n (let same : m ≡ n = cc in ap refusal same)
+    go (Ok d) h q = impossible cc
+    go (Err m) h q = h.one n (let same : m ≡ n = cc in ap Err same)
 
 seventeen : (c : Command) → every_one (λ n. leb 1 n && leb n 17) (numbers_of c) ≡ true
 seventeen (Reset a) = refl
@@ -111,7 +111,7 @@ seventeen PagesOff = refl
 seventeen (PageRequests q) = refl
 
 -- which is one of the seventeen
-pub numbers : (f : Function) (c : Command) (bytes out : List ℕ) (n : ℕ) → (step f c bytes out).answer ≡ refusal n
+pub numbers : (f : Function) (c : Command) (bytes out : List ℕ) (n : ℕ) → (step f c bytes out).answer ≡ Err n
     → (1 ≤ n) × (n ≤ 17)
 numbers f c bytes out n e =
     let both = and_both (leb 1 n) (leb n 17) (every_one_lem (λ m. leb 1 m && leb m 17) (numbers_of c) n (seventeen c) (refused_with_lem f c bytes out n e)) in

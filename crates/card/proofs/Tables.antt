@@ -1,4 +1,5 @@
 -- What a call can do to the tables.
+use Rattle.std.specs.Prelude.{Ok}
 use mathlib.Core.Path.{◌≡◌, refl}
 use mathlib.Core.Bool.{true, false}
 use mathlib.Core.List.{List}
@@ -11,14 +12,12 @@ use Rattle.packet.specs.declared.PrgIndex.{PrgIndex}
 use Rattle.packet.specs.declared.Packet.{Packet}
 use Rattle.packet.specs.declared.Body.TheVariants.{Cpl}
 use Rattle.packet.specs.declared.Completion.{Completion}
-use Rattle.packet.specs.Numbers.{ok}
 use Rattle.packet.specs.Reading.{reading, payload_in}
 use Rattle.atc.specs.declared.Cache.{Cache}
 use Rattle.atc.specs.Cache.{blank, emptied, range_dropped}
 use Rattle.tags.specs.declared.TagState.{TagState}
 use Rattle.tags.specs.declared.TagState.TheVariants.{Translate}
 use Rattle.tags.specs.declared.PendingTranslation.{PendingTranslation}
-use Rattle.tags.specs.declared.TagRow.{TagRow}
 use Rattle.tags.specs.Tags.{all_free, tag_state, set_tag, invalidated_tags, all_stale}
 use Rattle.pages.specs.declared.Pages.{Pages}
 use Rattle.pages.specs.Pages.{switched_off, switched_on, stopped, is_spent}
@@ -39,12 +38,12 @@ use Rattle.card.proofs.Cases.{Completes, Cases, cases}
 pub record Completing (c : Command) (bytes : List ℕ) (x : Completion) : Type 0 where
   pub receives : c ≡ Receive
   pub packet : Packet
-  pub reads : reading bytes ≡ ok packet
+  pub reads : reading bytes ≡ Ok packet
   pub body : packet.body ≡ Cpl x
 
 -- P holds for the tables as they are, and after each change that the call can make to them;
 -- bytes is the received packet.
-pub record Stable (f : Function) (c : Command) (bytes : List ℕ) (P : Cache → List TagRow → Pages → Type 0) : Type 0 where
+pub record Stable (f : Function) (c : Command) (bytes : List ℕ) (P : Cache → List TagState → Pages → Type 0) : Type 0 where
   pub same : P f.cache f.tags f.pages
   pub reset : P blank all_free switched_off
   -- E set
@@ -66,7 +65,7 @@ pub record Stable (f : Function) (c : Command) (bytes : List ℕ) (P : Cache →
       → P f.cache f.tags (with_request f.pages q)
   pub answer : (k : PrgIndex) → P f.cache f.tags (group_answered f.pages k)
 
-module _ (f : Function) (c : Command) (bytes : List ℕ) (P : Cache → List TagRow → Pages → Type 0) (k : Stable f c bytes P) where
+module _ (f : Function) (c : Command) (bytes : List ℕ) (P : Cache → List TagState → Pages → Type 0) (k : Stable f c bytes P) where
   abbrev Over : Success → Type 0
   Over d = P d.state.cache d.state.tags d.state.pages
 

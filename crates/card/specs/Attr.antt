@@ -1,7 +1,6 @@
 -- The Function decides nothing by Attr, and sends zeros in it. 02, "a".
-use Rattle.std.specs.Prelude.{◌≡◌, List, ℕ, take}
+use Rattle.std.specs.Prelude.{◌≡◌, List, ℕ, take, Ok}
 use Rattle.packet.specs.declared.Packet.{Packet}
-use Rattle.packet.specs.Numbers.{ok}
 use Rattle.packet.specs.Frames.{attr_at}
 use Rattle.packet.specs.Kinds.{attr_zero}
 use Rattle.packet.specs.Reading.{reading}
@@ -24,7 +23,7 @@ sent_by f c bytes out = take (step f c bytes out).sent (step f c bytes out).buff
 -- What the call sends has zeros in Attr, and is read with zeros.
 pub record SendsZeros (f : Function) (c : Command) (bytes out : List ℕ) : Type 0 where
   pub bits : attr_at (sent_by f c bytes out) ≡ 0
-  pub reads : (p : Packet) → reading (sent_by f c bytes out) ≡ ok p → p.head.attr ≡ attr_zero
+  pub reads : (p : Packet) → reading (sent_by f c bytes out) ≡ Ok p → p.head.attr ≡ attr_zero
 
 -- Received packets that differ in no bit but Attr have the same effect in every state. Whatever a call sends has zeros
 -- in Attr.

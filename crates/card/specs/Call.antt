@@ -1,6 +1,5 @@
 -- One definition over all calls. Serves 01, "The Function's tables".
-use Rattle.std.specs.Prelude.{List, ℕ}
-use Rattle.packet.specs.Numbers.{Result}
+use Rattle.std.specs.Prelude.{List, ℕ, Result}
 use Rattle.state.specs.declared.Function.{Function}
 use Rattle.state.specs.Answers.{Success, Observed, commit}
 use Rattle.state.specs.Switches.{resetting, enabling, disabling, switching_on, switching_off}
@@ -13,7 +12,7 @@ use Rattle.card.specs.declared.Command.{Command}
 use Rattle.card.specs.declared.Command.TheVariants.{Reset, Enable, Disable, Ask, Access, Receive, Drain, PagesOn, PagesOff, PageRequest}
 
 -- what a call does: bytes is the received packet or the payload to write, out the buffer for the packet to send
-unfoldable pub calling : Function → Command → List ℕ → List ℕ → Result Success
+unfoldable pub calling : Function → Command → List ℕ → List ℕ → Result Success ℕ
 calling f (Reset a) bytes out = resetting a
 calling f Enable bytes out = enabling f
 calling f Disable bytes out = disabling f

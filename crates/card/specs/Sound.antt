@@ -2,7 +2,7 @@
 use Rattle.std.specs.Prelude.{◌≡◌, List, ◌≤◌, length}
 use Rattle.atc.specs.declared.Cache.{Cache}
 use Rattle.atc.specs.Cache.{SoundCache}
-use Rattle.tags.specs.declared.TagRow.{TagRow}
+use Rattle.tags.specs.declared.TagState.{TagState}
 use Rattle.pages.specs.declared.Pages.{Pages}
 use Rattle.pages.specs.Pages.{used_credits}
 use Rattle.state.specs.declared.Function.{Function}
@@ -14,7 +14,7 @@ pub record SoundPages (p : Pages) : Type 0 where
   pub within : used_credits p.groups ≤ p.allocation
 
 -- a sound cache, 32 tags and sound pages
-pub record SoundTables (c : Cache) (table : List TagRow) (p : Pages) : Type 0 where
+pub record SoundTables (c : Cache) (table : List TagState) (p : Pages) : Type 0 where
   pub cache : SoundCache c
   pub tags : length table ≡ 32
   pub pages : SoundPages p

@@ -5,14 +5,14 @@ ghost use Rattle.std.specs.Prelude.{◌≡◌};
 ghost use Rattle.state.specs.Answers.{observed};
 ghost use Rattle.card.specs.Call.{step};
 
-pub use call_access::{AccessArgs, Direction, Goes, Target, access, look_up};
+pub use call_access::{AccessArgs, Direction, Target, access, look_up};
 pub use call_ask::{AskArgs, ask};
 pub use call_page::page_request;
 pub use call_receive::{payload_of, receive};
 pub use call_send::{drain, ready};
 pub use packet::{ITag, PageRequest, PrgIndex, Refusal, Tag, number};
 pub use state::{
-    Agent, Answer, Effect, Function, ResetArgs, disable, enable, new, pages_off, pages_on, reset,
+    Answer, Effect, Function, ResetArgs, disable, enable, new, pages_off, pages_on, reset,
 };
 pub use translations::Rcb;
 
@@ -32,9 +32,9 @@ pub enum Command {
 }
 
 // Makes any call on any state.
-#[tactic(auto, using(crate::proofs::Calls::quiet_call), unfolding(crate::specs::Call::calling))]
-pub fn call(f: Function, c: Command, bytes: &[u8], out: &mut [u8]) -> Effect
-    ensures { observed result out.new ≡ step f c bytes.now out.old }
+#[tactic(auto, using(state::proofs::Commits::quiet_result), unfolding(crate::specs::Call::calling))]
+pub fn call(f: &mut Function, c: Command, bytes: &[u8], out: &mut [u8]) -> Result<Effect, Refusal>
+    ensures { observed f.new result out.new ≡ step f.old c bytes.now out.old }
 {
     match c {
         Command::Reset(a) => reset(f, a),

@@ -1,9 +1,9 @@
 -- What the third demand needs of a machine: how each call changes six views of the state, in
 -- terms of what the observer sees.
+use Rattle.std.specs.Prelude.{Option, None, Some}
 use mathlib.Core.Path.{◌≡◌}
 use mathlib.Core.Logic.{◌⊎◌}
 use mathlib.Core.Bool.{Bool, true, false, not, ◌&&◌}
-use mathlib.Core.Option.{Option, none, some}
 use Prim.Native.Nat.{ℕ, ◌<◌}
 use lib.Dec.{eqb}
 use Rattle.demand3.specs.Terms.{Terms}
@@ -25,29 +25,29 @@ pub record View (T : Terms) : Type 0 where
 module _ {T : Terms} where
   -- the call's completion closes the open request o of tag t
   abbrev pub ends : ℕ → Option (Taken T) → Option (Pending T) → Bool
-  ends t none o = false
-  ends t (some (CPL u n d)) o = eqb t u && not (is_open (leaves d o))
-  ends t (some (INV i a)) o = false
-  ends t (some (DRAIN n)) o = false
+  ends t None o = false
+  ends t (Some (CPL u n d)) o = eqb t u && not (is_open (leaves d o))
+  ends t (Some (INV i a)) o = false
+  ends t (Some (DRAIN n)) o = false
 
   -- the call delivers data that grant e, for a Translation Request that is not stale
   abbrev pub fills : View T → Option (Taken T) → T.Entry → Bool
-  fills v none e = false
-  fills v (some (CPL t n none)) e = false
-  fills v (some (CPL t n (some d))) e = v.live t && gave e d (v.opens t)
-  fills v (some (INV i a)) e = false
-  fills v (some (DRAIN n)) e = false
+  fills v None e = false
+  fills v (Some (CPL t n None)) e = false
+  fills v (Some (CPL t n (Some d))) e = v.live t && gave e d (v.opens t)
+  fills v (Some (INV i a)) e = false
+  fills v (Some (DRAIN n)) e = false
 
   -- nothing that is granted to the open request overlaps a
   abbrev pub Apart : T.Area → Option (Pending T) → Type 0
-  Apart a none = Unit {0}
-  Apart a (some (translation q n)) =
+  Apart a None = Unit {0}
+  Apart a (Some (translation q n)) =
       (k : ℕ) (d : T.Data) (e : T.Entry) → T.grants q k d e ≡ true → T.entry_in a e ≡ false
-  Apart a (some (fetch x b n)) = Unit {0}
+  Apart a (Some (fetch x b n)) = Unit {0}
 
 -- the entry is in the cache
 abbrev pub HeldIn : {T : Terms} → View T → T.Entry → Type 0
-HeldIn v e = (j : ℕ) × (v.held j ≡ some e)
+HeldIn v e = (j : ℕ) × (v.held j ≡ Some e)
 
 -- an entry of the cache serves the access
 pub record Through {T : Terms} (v : View T) (b : T.Access) (k : ℕ) : Type 0 where
@@ -59,12 +59,12 @@ pub record Through {T : Terms} (v : View T) (b : T.Access) (k : ℕ) : Type 0 wh
 pub record Step {T : Terms} (tags : ℕ) (v w : View T) (x : Seen T) : Type 0 where
   -- the tags
   pub opens : (t : ℕ) → w.opens t ≡ on_sent t x.sent (on_taken t x.took (v.opens t))
-  pub unused : (t : ℕ) → uses t x.sent ≡ true → (t < tags) × (v.opens t ≡ none)
+  pub unused : (t : ℕ) → uses t x.sent ≡ true → (t < tags) × (v.opens t ≡ None)
   pub live : (t : ℕ) → w.live t ≡ true → (v.live t ≡ true) ⊎ (uses t x.sent ≡ true)
   -- the cache
-  pub entries : (j : ℕ) (e : T.Entry) → w.held j ≡ some e → HeldIn v e ⊎ (fills v x.took e ≡ true)
-  pub through : (b : T.Access) (k : ℕ) → reaches x.sent ≡ some (b, k) → Through v b k
-  pub direct : (b : T.Access) (k : ℕ) → goes_direct x.sent ≡ some (b, k) → T.asked b k ≡ true
+  pub entries : (j : ℕ) (e : T.Entry) → w.held j ≡ Some e → HeldIn v e ⊎ (fills v x.took e ≡ true)
+  pub through : (b : T.Access) (k : ℕ) → reaches x.sent ≡ Some (b, k) → Through v b k
+  pub direct : (b : T.Access) (k : ℕ) → goes_direct x.sent ≡ Some (b, k) → T.asked b k ≡ true
   -- the ITags
   pub waiting : (i : Ticket)
       → w.waiting i ≡ given (accepts i x.took) (λ a. true) (not (completes i x.sent) && v.waiting i)
@@ -73,11 +73,11 @@ pub record Step {T : Terms} (tags : ℕ) (v w : View T) (x : Seen T) : Type 0 wh
   pub carried : (i : Ticket)
       → completes i x.sent ≡ (drains i x.took && (v.waiting i && none_below tags (v.waits_for i)))
   -- the agent: the sender of the first accepted request, and no other later
-  pub first : (i : Ticket) (a : T.Area) → accepts i x.took ≡ some a → w.agent ≡ some i.agent
-  pub lasts : (g : ℕ) → v.agent ≡ some g → w.agent ≡ some g
+  pub first : (i : Ticket) (a : T.Area) → accepts i x.took ≡ Some a → w.agent ≡ Some i.agent
+  pub lasts : (g : ℕ) → v.agent ≡ Some g → w.agent ≡ Some g
   -- an accepted Invalidate Request
-  pub not_yet : (i : Ticket) (a : T.Area) → accepts i x.took ≡ some a → v.waiting i ≡ false
-  pub dropped : (i : Ticket) (a : T.Area) → accepts i x.took ≡ some a → (j : ℕ) (e : T.Entry) → w.held j ≡ some e
+  pub not_yet : (i : Ticket) (a : T.Area) → accepts i x.took ≡ Some a → v.waiting i ≡ false
+  pub dropped : (i : Ticket) (a : T.Area) → accepts i x.took ≡ Some a → (j : ℕ) (e : T.Entry) → w.held j ≡ Some e
       → T.entry_in a e ≡ false
-  pub stale : (i : Ticket) (a : T.Area) → accepts i x.took ≡ some a → (t : ℕ) → w.live t ≡ true
+  pub stale : (i : Ticket) (a : T.Area) → accepts i x.took ≡ Some a → (t : ℕ) → w.live t ≡ true
       → Apart a (w.opens t)

@@ -1,7 +1,7 @@
 -- The numbers of the entries do not matter: a lawful machine stays lawful when it shows its entries under others.
+use Rattle.std.specs.Prelude.{Option, None, Some}
 use mathlib.Core.Path.{◌≡◌, refl, sym, ap, ◌∙◌}
 use mathlib.Core.Logic.{inl, inr, ⊎_elim}
-use mathlib.Core.Option.{Option, none, some}
 use Prim.Native.Nat.{ℕ}
 use Rattle.demand3.specs.Terms.{Terms}
 use Rattle.demand3.specs.Seen.{Taken, CPL, INV, DRAIN, Seen}
@@ -29,11 +29,11 @@ module _ {T : Terms} where
   -- what fills the cache does not depend on the numbers
   turned_fills : (v : View T) (turn : ℕ → ℕ) (y : Option (Taken T)) (e : T.Entry)
       → fills v y e ≡ fills (turned v turn) y e
-  turned_fills v turn none e = refl
-  turned_fills v turn (some (CPL t n none)) e = refl
-  turned_fills v turn (some (CPL t n (some d))) e = refl
-  turned_fills v turn (some (INV i a)) e = refl
-  turned_fills v turn (some (DRAIN n)) e = refl
+  turned_fills v turn None e = refl
+  turned_fills v turn (Some (CPL t n None)) e = refl
+  turned_fills v turn (Some (CPL t n (Some d))) e = refl
+  turned_fills v turn (Some (INV i a)) e = refl
+  turned_fills v turn (Some (DRAIN n)) e = refl
 
   turned_step : (tags : ℕ) (v w : View T) (x : Seen T) (before after : ℕ → ℕ) → ((j : ℕ) → before (before j) ≡ j)
       → Step tags v w x → Step tags (turned v before) (turned w after) x
@@ -78,7 +78,7 @@ module _ {T : Terms} {R : Observer T} (M : Machine R) (turn : M.State → ℕ �
       record {
         view = λ s. turned (L.view (of s)) (turn s.fn);
         held = λ s j. L.held (of s) (turn s.fn j);
-        Ok = λ s. L.Ok (of s);
+        Proper = λ s. L.Proper (of s);
         keeps = λ s c u o. L.keeps (of s) c u o;
         law = λ s c u o. turned_step R.tags _ _ _ (turn s.fn) (turn (M.state s.fn c)) (twice s.fn) (L.law (of s) c u o);
         legible = λ s c u o. L.legible (of s) c u o;

@@ -1,6 +1,5 @@
 -- DEMAND 3, for any machine whose calls are observed. `Letter` is the demand word by word, `Beyond` what holds beside it, `Order` says from where. Serves 01, "How much each call must settle".
-use Rattle.std.specs.Prelude.{◌≡◌, ◌⊎◌, ◌↔◌, true, false, cond, List, [], ◌∷◌, ◌++◌, ℕ, ◌+◌, ◌<◌, length, drop}
-use Rattle.std.proofs.Math.Option.{none, some}
+use Rattle.std.specs.Prelude.{◌≡◌, ◌⊎◌, ◌↔◌, true, false, cond, List, [], ◌∷◌, ◌++◌, ℕ, ◌+◌, ◌<◌, length, drop, None, Some}
 use Rattle.demand3.specs.Terms.{Terms}
 use Rattle.demand3.specs.Seen.{Ticket, INV, Seen}
 use Rattle.demand3.specs.History.{open_at, remains, read_in, uses, reaches, goes_direct, accepts, requests, completions, requests_of, completions_of, waits, waits_of, brings}
@@ -10,7 +9,7 @@ module _ {T : Terms} {R : Observer T} (M : Machine R) where
   module _ {s : Bench M} (r : Run M s) where
     -- the call of the run accepts an Invalidate Request; and the calls since send its completion
     abbrev pub Arrived : Ticket → T.Area → Type 0
-    Arrived i a = accepts i (seen_at M r).took ≡ some a
+    Arrived i a = accepts i (seen_at M r).took ≡ Some a
 
     abbrev pub Completed : Ticket → T.Area → Type 0
     Completed i a = Arrived i a × (0 < completions i (later M r))
@@ -22,7 +21,7 @@ module _ {T : Terms} {R : Observer T} (M : Machine R) where
 
     -- no overlapping translated read that was open when the call was made is still open
     abbrev pub NoOldRead : List (Seen T) → T.Area → Type 0
-    NoOldRead g a = (t : ℕ) → remains t (later M r) (read_in a (open_at t (earlier M r g))) ≡ none
+    NoOldRead g a = (t : ℕ) → remains t (later M r) (read_in a (open_at t (earlier M r g))) ≡ None
 
   -- The demand itself, for all runs from s. What was seen before, since the last accepted reset, is g.
   pub record Letter (s : Bench M) (g : List (Seen T)) : Type 0 where
@@ -35,7 +34,7 @@ module _ {T : Terms} {R : Observer T} (M : Machine R) where
     pub sums : (r : Run M s) (k : ℕ) → let h = seen_at M r ∷ earlier M r g in
         requests_of k h ≡ completions_of k h + cond (waits_of R.tags k h) 1 0
     -- an Invalidate Request is refused with 9 exactly while it waits
-    pub nine : (r : Run M s) (i : Ticket) (a : T.Area) → R.took (start M r).notes r.call ≡ some (INV i a)
+    pub nine : (r : Run M s) (i : Ticket) (a : T.Area) → R.took (start M r).notes r.call ≡ Some (INV i a)
         → (R.busy (M.answer (start M r).fn r.call) ≡ true) ↔ (waits R.tags i (earlier M r g) ≡ true)
 
   -- What holds beside it: nothing but the cache is used, and the observer misses nothing.
@@ -46,13 +45,13 @@ module _ {T : Terms} {R : Observer T} (M : Machine R) where
     pub origin : (r : Run M s) (e : T.Entry) → Holds M (arrival M r).fn e
         → Holds M s.fn e ⊎ CameFrom M e s g (r.call ∷ r.before)
     -- a translated access goes where an entry says, and any other to the address that was asked for
-    pub through : (r : Run M s) (b : T.Access) (k : ℕ) → reaches (seen_at M r).sent ≡ some (b, k)
+    pub through : (r : Run M s) (b : T.Access) (k : ℕ) → reaches (seen_at M r).sent ≡ Some (b, k)
         → Served M (start M r).fn b k
-    pub direct : (r : Run M s) (b : T.Access) (k : ℕ) → goes_direct (seen_at M r).sent ≡ some (b, k)
+    pub direct : (r : Run M s) (b : T.Access) (k : ℕ) → goes_direct (seen_at M r).sent ≡ Some (b, k)
         → T.asked b k ≡ true
     -- a request has one of the tags, and one that is not open, so that a completion belongs to one request
     pub tags : (r : Run M s) (t : ℕ) → uses t (seen_at M r).sent ≡ true
-        → (t < R.tags) × (open_at t (earlier M r g) ≡ none)
+        → (t < R.tags) × (open_at t (earlier M r g) ≡ None)
     -- everything sent is a packet that the Function may send, and everything taken one that it takes
     pub legible : (r : Run M s) → R.is_packet (start M r).notes r.call (packet M (start M r) r.call) ≡ true
     pub taken : (r : Run M s) → refuses M (start M r) r.call ≡ false → R.is_taken (start M r).notes r.call ≡ true
@@ -91,5 +90,5 @@ module _ {T : Terms} {R : Observer T} (M : Machine R) where
   -- says that was received since, for a Translation Request sent since.
   abbrev pub OnlyNewTranslations : {s : Bench M} (r : Run M s) (a : T.Area) → Type 0
   OnlyNewTranslations r a = (c : R.Call) → resets M (end M r) c ≡ false → (b : T.Access) (k : ℕ)
-      → reaches (seen M (end M r) c).sent ≡ some (b, k) → T.access_in a b ≡ true
+      → reaches (seen M (end M r) c).sent ≡ Some (b, k) → T.access_in a b ≡ true
       → (e : T.Entry) × (T.serves e b k ≡ true) × Brought e (arrival M r) r.since

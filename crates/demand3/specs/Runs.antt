@@ -1,7 +1,6 @@
 -- Machines whose calls are observed, and their runs. Serves 01, "How much each call must settle".
 -- Lists of calls, like histories, have the newest call first.
-use Rattle.std.specs.Prelude.{◌≡◌, ◌⊎◌, Bool, true, false, not, cond, ◌&&◌, List, [], ◌∷◌, ◌++◌, ℕ, take}
-use Rattle.std.proofs.Math.Option.{Option, none, some}
+use Rattle.std.specs.Prelude.{◌≡◌, ◌⊎◌, Bool, true, false, not, cond, ◌&&◌, List, [], ◌∷◌, ◌++◌, ℕ, take, Option, None, Some}
 use Rattle.demand3.specs.Terms.{Terms}
 use Rattle.demand3.specs.Seen.{Taken, Sent, Seen}
 use Rattle.demand3.specs.History.{brings}
@@ -58,7 +57,7 @@ module _ {T : Terms} {R : Observer T} (M : Machine R) where
   packet s c = take (R.reported (M.answer s.fn c)) (M.buffer s.fn c)
 
   abbrev pub seen : Bench M → R.Call → Seen T
-  seen s c = record { took = cond (refuses s c) none (R.took s.notes c); sent = R.sent s.notes c (packet s c) }
+  seen s c = record { took = cond (refuses s c) None (R.took s.notes c); sent = R.sent s.notes c (packet s c) }
 
   abbrev pub next : Bench M → R.Call → Bench M
   next s c = record { fn = M.state s.fn c; notes = cond (refuses s c) s.notes (R.note s.notes c (seen s c)) }
@@ -110,7 +109,7 @@ module _ {T : Terms} {R : Observer T} (M : Machine R) where
 
   -- the entry is in the cache
   abbrev pub Holds : M.State → T.Entry → Type 0
-  Holds f e = (j : ℕ) × (M.held f j ≡ some e)
+  Holds f e = (j : ℕ) × (M.held f j ≡ Some e)
 
   -- The entry came from a Translation Request, of the calls cs or of what was seen before, g: one of the calls received
   -- a completion for it whose data grant the entry, and the cache has held it since.

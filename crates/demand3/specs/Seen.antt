@@ -1,6 +1,5 @@
 -- What the observer sees of a call. Serves 01, "How much each call must settle".
-use Rattle.std.specs.Prelude.{Bool, ◌&&◌, ℕ, eqb}
-use Rattle.std.proofs.Math.Option.{Option}
+use Rattle.std.specs.Prelude.{Bool, ◌&&◌, ℕ, eqb, Option}
 use Rattle.demand3.specs.Terms.{Terms}
 
 -- the identity of an Invalidate Request: its requester (the agent) and its ITag

@@ -1,10 +1,10 @@
 -- An accepted completion: the new state of its tag, and what it brings into the cache.
+use Rattle.std.specs.Prelude.{Option, None, Some}
 use mathlib.Core.Path.{◌≡◌, refl, sym, ap, ◌∙◌}
 use mathlib.Core.Logic.{◌⊎◌, inl}
-use mathlib.Core.Bool.{Bool, true, false, not, cond, ◌&&◌}
+use mathlib.Core.Bool.{Bool, true, cond, ◌&&◌, not-not}
 use mathlib.Core.List.{List}
-use mathlib.Core.Option.{Option, none, some}
-use Prim.Native.Nat.{ℕ, ◌+◌, ◌-◌, ◌*◌, ◌/◌, ◌<◌, ◌≤◌, ◌^◌}
+use Prim.Native.Nat.{ℕ, ◌+◌, ◌-◌, ◌*◌, ◌/◌, ◌<◌, ◌^◌}
 use native.Mathlib.Omega.{arith}
 use lib.Dec.{eqb, lit≤}
 use lib.ListN.{length}
@@ -25,7 +25,7 @@ use Rattle.tags.specs.Itags.{is_in}
 use Rattle.tags.specs.Tags.{tag_state, is_tag, translation_range, delayed_by}
 use Rattle.tags.proofs.Laws.{translation_range_units}
 use Rattle.translations.specs.Fits.{exponent_or0, common_size, received_count, translations_fit}
-use Rattle.translations.specs.Fills.{allows_access, region_index}
+use Rattle.translations.specs.Fills.{region_index}
 use Rattle.translations.proofs.Laws.{Brought}
 use Rattle.state.specs.declared.Function.{Function}
 use Rattle.lemmas.proofs.Bools.{no_tf, no_some, beq_same}
@@ -33,7 +33,7 @@ use Rattle.demand3.specs.Seen.{CPL}
 use Rattle.demand3.specs.History.{is_open, leaves}
 use Rattle.demand3.proofs.Laws.{Step, fills, HeldIn}
 use Rattle.demands.specs.Observed.{Cached, Reply, terms, Noted, itag, is_given, is_replied, same_entry, held_in}
-use Rattle.demands.proofs.Views.{tag, asked_by, pending_of, live_of, view, Ok}
+use Rattle.demands.proofs.Views.{tag, asked_by, pending_of, live_of, view, Proper}
 use Rattle.demands.proofs.Tags.{left, at_own, at_other}
 use Rattle.tlp.proofs.Qwords.{base_lt}
 use Rattle.translations.proofs.Parts.{one_size, came_by}
@@ -41,7 +41,7 @@ use Rattle.translations.proofs.Parts.{one_size, came_by}
 -- ---- the entries of a reply are those that its bytes grant
 
 pub same_self : (x : Entry) → same_entry x x ≡ true
-same_self x = rw (beq_same x.used, beq_same x.r, beq_same x.w, beq_same x.n, beq_same x.u, eq-eqb x.unit x.unit refl, eq-eqb x.to x.to refl)
+same_self x = rw (beq_same x.r, beq_same x.w, beq_same x.n, beq_same x.u, eq-eqb x.unit x.unit refl, eq-eqb x.to x.to refl)
 
 module _ (q : PendingTranslation) (load : List ℕ) (fit : translations_fit q load ≡ true) (x : Entry) (b : Brought q load x) where
   abbrev stu : ℕ
@@ -61,7 +61,7 @@ module _ (q : PendingTranslation) (load : List ℕ) (fit : translations_fit q lo
       (ap (λ (y : Entry). same_entry x y) (sym b.given) ∙ same_self x)
 
   pub brought_replied : (count : ℕ)
-      → is_replied (asked_by q) (q.whole - q.due) (record { count = count; load = load }) (record { stu = stu; entry = x }) ≡ true
+      → is_replied (asked_by q) (q.whole - q.due) (record { count = count; load = load }) (record { used = true; stu = stu; entry = x }) ≡ true
   brought_replied count = rw (eq-eqb stu stu refl, in_range, ← came_by q) granted
 
 -- and the translated address fits 64 bits
@@ -73,7 +73,7 @@ brought_to q load x h b =
 
 -- ---- the tag of a completion
 
-module _ (me : Noted) (f : Function) (o : Ok me f) (t : Tag) (own : is_tag t ≡ true) (b : TagState) (is : tag_state f.tags t ≡ b) where
+module _ (me : Noted) (f : Function) (o : Proper me f) (t : Tag) (own : is_tag t ≡ true) (b : TagState) (is : tag_state f.tags t ≡ b) where
   was : (u : Tag) → eqb u.0 t.0 ≡ true → tag_state f.tags u ≡ b
   was u e = let same : u ≡ t = ap (λ (k : ℕ). record { 0 = k }) (eqb-true u.0 t.0 e) in rw same is
 
@@ -82,8 +82,8 @@ module _ (me : Noted) (f : Function) (o : Ok me f) (t : Tag) (own : is_tag t ≡
     pub left_step : (n : ℕ) (d : Option Reply) → pending_of after ≡ leaves d (pending_of b)
         → (live_of after ≡ true → live_of b ≡ true)
         → ((i : ITag) → is_in (delayed_by after) i ≡ (is_open (leaves {T = terms} d (pending_of b)) && is_in (delayed_by b) i))
-        → ((j : ℕ) (e : Cached) → held_in (left f t enabled cache after) j ≡ some e → HeldIn (view f) e ⊎ (fills (view f) (some (CPL t.0 n d)) e ≡ true))
-        → Step 32 (view f) (view (left f t enabled cache after)) (record { took = some (CPL t.0 n d); sent = none })
+        → ((j : ℕ) (e : Cached) → held_in (left f t enabled cache after) j ≡ Some e → HeldIn (view f) e ⊎ (fills (view f) (Some (CPL t.0 n d)) e ≡ true))
+        → Step 32 (view f) (view (left f t enabled cache after)) (record { took = Some (CPL t.0 n d); sent = None })
     left_step n d opened lived noted entries =
         record {
           opens = λ u. by_cases (eqb u t.0)
@@ -96,7 +96,7 @@ module _ (me : Noted) (f : Function) (o : Ok me f) (t : Tag) (own : is_tag t ≡
           direct = λ b k e. no_some e;
           waiting = λ i. refl;
           waits_for = λ i u w. by_cases (eqb u t.0)
-              (λ e. ap (λ (x : TagState). is_in (delayed_by x) (itag i.number)) (at_own me f o t own after (tag u) e) ∙ noted (itag i.number) ∙ sym (rw (e, was (tag u) e) (ap (λ (x : Bool). x && is_in (delayed_by b) (itag i.number)) (twice (is_open (leaves {T = terms} d (pending_of b)))))))
+              (λ e. ap (λ (x : TagState). is_in (delayed_by x) (itag i.number)) (at_own me f o t own after (tag u) e) ∙ noted (itag i.number) ∙ sym (rw (e, was (tag u) e) (ap (λ (x : Bool). x && is_in (delayed_by b) (itag i.number)) (not-not (is_open (leaves {T = terms} d (pending_of b)))))))
               (λ e. ap (λ (x : TagState). is_in (delayed_by x) (itag i.number)) (at_other me f o t own after (tag u) e) ∙ sym (rw e refl));
           carried = λ i. refl;
           first = λ i a p. no_some p;
@@ -105,7 +105,3 @@ module _ (me : Noted) (f : Function) (o : Ok me f) (t : Tag) (own : is_tag t ≡
           dropped = λ i a p. no_some p;
           stale = λ i a p. no_some p;
         }
-      where
-        twice : (x : Bool) → not (not x) ≡ x
-        twice true = refl
-        twice false = refl

@@ -1,9 +1,9 @@
 -- Drain: a completion is sent for exactly the waiting ITags that no outstanding read delays.
+use Rattle.std.specs.Prelude.{None, Option, Some}
 use mathlib.Core.Path.{◌≡◌, refl, sym, ap, ◌∙◌}
 use mathlib.Core.Logic.{inl}
 use mathlib.Core.Bool.{Bool, true, false, not, ◌&&◌, and-false}
 use mathlib.Core.List.{List, []}
-use mathlib.Core.Option.{none, some}
 use Prim.Native.Nat.{ℕ, zero, suc, ◌<◌}
 use native.Mathlib.Omega.{arith}
 use lib.Dec.{eqb, ltb}
@@ -15,13 +15,10 @@ use Rattle.packet.specs.declared.Tag.{Tag}
 use Rattle.tlp.proofs.Fields.{typed_completion}
 use Rattle.tags.specs.declared.TagState.{TagState}
 use Rattle.tags.specs.declared.TagState.TheVariants.{Free, Translate, Read}
-use Rattle.tags.specs.declared.TagRow.{TagRow}
 use Rattle.tags.specs.Itags.{is_in, without}
 use Rattle.tags.specs.Tags.{tag_state, is_tag, delayed_by, delayed_itags}
 use Rattle.tags.proofs.Laws.{in_none, in_without, without_le, tag_state_tag, delayed_exactly, Delaying}
 use Rattle.state.specs.declared.Function.{Function}
-use Rattle.state.specs.declared.Agent.{Agent}
-use Rattle.state.specs.declared.Agent.TheVariants.{Unknown, Known}
 use Rattle.state.specs.State.{head_of, with_waiting}
 use Rattle.state.proofs.Laws.{Does}
 use Rattle.call_send.specs.Drain.{agent_id, invalidate_completion_packet, ready_of}
@@ -33,7 +30,7 @@ use Rattle.demand3.proofs.Laws.{Step}
 use Rattle.demand3.proofs.Theorem.{none_not}
 use Rattle.tlp.specs.Bytes.{are_bytes}
 use Rattle.demands.specs.Observed.{is_typed, Call, Noted, itag, is_listed}
-use Rattle.demands.proofs.Views.{own_packet, tag, is_agent, view, Ok, Good, good_plain, good_send}
+use Rattle.demands.proofs.Views.{own_packet, tag, is_agent, view, Proper, Good, good_plain, good_send}
 use lib.Count.{ones}
 use Rattle.state.specs.Answers.{sends_nothing, sends, carries}
 
@@ -43,7 +40,7 @@ none_all (suc n) f h = rw (h n (omega arith)) (none_all n f (λ t k. h t (omega 
 
 -- ---- which reads an ITag waits for
 
-module _ (tags : List TagRow) (i : ITag) (all : length tags ≡ 32) where
+module _ (tags : List TagState) (i : ITag) (all : length tags ≡ 32) where
   by_read : (t : Tag) → is_in (delayed_by (tag_state tags t)) i ≡ true → Delaying tags i
   by_read t e = go (tag_state tags t) refl e
     where
@@ -80,7 +77,7 @@ stays true true false n = refl
 stays true false w n = refl
 stays false l w n = refl
 
-module _ (me : Noted) (f : Function) (o : Ok me f) (bytes out : List ℕ) (ty : is_typed Drain ≡ true) (octets : are_bytes bytes ≡ true) where
+module _ (me : Noted) (f : Function) (o : Proper me f) (bytes out : List ℕ) (ty : is_typed Drain ≡ true) (octets : are_bytes bytes ≡ true) where
   abbrev drain_call : Call
   drain_call = record { command = Drain; bytes = bytes; out = out; typed = ty; octets = octets }
 
@@ -95,7 +92,7 @@ module _ (me : Noted) (f : Function) (o : Ok me f) (bytes out : List ℕ) (ty : 
       ≡ (is_in f.waiting i && not (is_in f.waiting i && not (is_in (delayed_itags f.tags) i)))
   left_in i = in_without f.waiting (ready_of f) i ∙ ap (λ (r : Bool). is_in f.waiting i && not r) (ready_in i)
 
-  left_ok : Ok me left
+  left_ok : Proper me left
   left_ok =
       record {
         unit = o.unit;
@@ -116,11 +113,11 @@ module _ (me : Noted) (f : Function) (o : Ok me f) (bytes out : List ℕ) (ty : 
   waits_for_none i = none_delayed f.tags (itag i.number) o.tags
 
   -- while the agent is unknown no ITag waits
-  unknown : f.agent ≡ Unknown → (i : ITag) → is_in f.waiting i ≡ false
+  unknown : f.agent ≡ None → (i : ITag) → is_in f.waiting i ≡ false
   unknown e i = is_false _ (λ w. o.known i w e)
 
   -- a drain call that sends nothing
-  idle_step : ready_of f ≡ 0 → Step 32 (view f) (view f) (record { took = some (DRAIN (λ i. true)); sent = none })
+  idle_step : ready_of f ≡ 0 → Step 32 (view f) (view f) (record { took = Some (DRAIN (λ i. true)); sent = None })
   idle_step z =
       record {
         opens = λ t. refl;
@@ -141,7 +138,7 @@ module _ (me : Noted) (f : Function) (o : Ok me f) (bytes out : List ℕ) (ty : 
       }
 
   -- one that sends a completion
-  sent_step : Step 32 (view f) (view left) (record { took = some (DRAIN (λ i. true)); sent = some (IC (agent_id f.agent) (is_listed (ready_of f))) })
+  sent_step : Step 32 (view f) (view left) (record { took = Some (DRAIN (λ i. true)); sent = Some (IC (agent_id f.agent) (is_listed (ready_of f))) })
   sent_step =
       record {
         opens = λ t. refl;
@@ -160,18 +157,18 @@ module _ (me : Noted) (f : Function) (o : Ok me f) (bytes out : List ℕ) (ty : 
         stale = λ i a p. no_some p;
       }
     where
-      carries_by : (g : Agent) → f.agent ≡ g → (i : Ticket)
+      carries_by : (g : Option ℕ) → f.agent ≡ g → (i : Ticket)
           → (eqb i.agent (agent_id g) && (ltb i.number 32 && (is_in f.waiting (itag i.number) && not (is_in (delayed_itags f.tags) (itag i.number)))))
           ≡ ((is_agent g i.agent && (ltb i.number 32 && is_in f.waiting (itag i.number))) && not (is_in (delayed_itags f.tags) (itag i.number)))
-      carries_by Unknown e i =
+      carries_by None e i =
           rw (unknown e (itag i.number), and-false (ltb i.number 32)) (and-false (eqb i.agent 0))
-      carries_by (Known id) e i = regroup (eqb i.agent id) (ltb i.number 32) (is_in f.waiting (itag i.number)) (is_in (delayed_itags f.tags) (itag i.number))
+      carries_by (Some id) e i = regroup (eqb i.agent id) (ltb i.number 32) (is_in f.waiting (itag i.number)) (is_in (delayed_itags f.tags) (itag i.number))
 
-      stays_by : (g : Agent) → f.agent ≡ g → (i : Ticket)
+      stays_by : (g : Option ℕ) → f.agent ≡ g → (i : Ticket)
           → (is_agent g i.agent && (ltb i.number 32 && (is_in f.waiting (itag i.number) && not (is_in f.waiting (itag i.number) && not (is_in (delayed_itags f.tags) (itag i.number))))))
           ≡ (not (eqb i.agent (agent_id g) && (ltb i.number 32 && (is_in f.waiting (itag i.number) && not (is_in (delayed_itags f.tags) (itag i.number))))) && (is_agent g i.agent && (ltb i.number 32 && is_in f.waiting (itag i.number))))
-      stays_by Unknown e i = sym (and-false (not (eqb i.agent 0 && (ltb i.number 32 && (is_in f.waiting (itag i.number) && not (is_in (delayed_itags f.tags) (itag i.number)))))))
-      stays_by (Known id) e i = stays (eqb i.agent id) (ltb i.number 32) (is_in f.waiting (itag i.number)) (is_in (delayed_itags f.tags) (itag i.number))
+      stays_by None e i = sym (and-false (not (eqb i.agent 0 && (ltb i.number 32 && (is_in f.waiting (itag i.number) && not (is_in (delayed_itags f.tags) (itag i.number)))))))
+      stays_by (Some id) e i = stays (eqb i.agent id) (ltb i.number 32) (is_in f.waiting (itag i.number)) (is_in (delayed_itags f.tags) (itag i.number))
 
   pub good_idle : eqb (ready_of f) 0 ≡ true → Does (Good me f drain_call) (sends_nothing f (carries 0))
   good_idle e = good_plain me f drain_call _ _ o (idle_step (eqb-true (ready_of f) 0 e))

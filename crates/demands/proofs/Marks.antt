@@ -1,11 +1,10 @@
 -- How stale marks, delays and new requests change a tag.
+use Rattle.std.specs.Prelude.{Some}
 use mathlib.Core.Path.{◌≡◌, refl, sym, ap, ◌∙◌}
 use mathlib.Core.Bool.{Bool, true, false, ◌&&◌, ◌||◌, and-false}
-use mathlib.Core.Option.{some}
 use Prim.Native.Nat.{ℕ, ◌-◌}
-use native.Mathlib.Omega.{arith}
-use lib.Dec.{eqb, leb}
-use borrow.Author.Tests.{eqb-true, leb-true, le-leb}
+use lib.Dec.{eqb}
+use borrow.Author.Tests.{eqb-true}
 use Rattle.lemmas.proofs.Cases.{by_cases, and_both, never_both, is_false}
 use Rattle.ranges.specs.declared.Range.{Range}
 use Rattle.ranges.specs.Range.{overlaps, unit_exponent, region_of, is_within}
@@ -15,8 +14,8 @@ use Rattle.tags.specs.declared.TagState.{TagState}
 use Rattle.tags.specs.declared.TagState.TheVariants.{Free, Translate, Read}
 use Rattle.tags.specs.declared.PendingTranslation.{PendingTranslation}
 use Rattle.tags.specs.Itags.{bit_index, is_in}
-use Rattle.tags.proofs.Laws.{in_with_itag, in_none, translation_range_units, overlaps_translation, overlaps_read, invalidated_if}
-use Rattle.tags.specs.Tags.{translation_range, delayed_by, pending_overlaps, stale_translation, invalidated_state, stale_state}
+use Rattle.tags.proofs.Laws.{in_with_itag, in_none, translation_range_units, overlaps_translation, overlaps_read}
+use Rattle.tags.specs.Tags.{translation_range, delayed_by, pending_overlaps, stale_translation, invalidated_state, stale_state, invalidated_if}
 use Rattle.lemmas.proofs.Bools.{no_tf}
 use Rattle.demand3.specs.History.{translation, is_open, read_in}
 use Rattle.demand3.proofs.Laws.{Apart}
@@ -27,7 +26,7 @@ use Rattle.demands.proofs.Views.{asked_by, pending_of, live_of}
 
 -- a stale request is for the same units
 stale_translation_lem : (q : PendingTranslation) → pending_of (Translate (stale_translation q)) ≡ pending_of (Translate q)
-stale_translation_lem q = ap (λ (r : Range). some (translation (record { stu = q.stu; range = r }) (q.whole - q.due))) (translation_range_units (stale_translation q) ∙ sym (translation_range_units q))
+stale_translation_lem q = ap (λ (r : Range). Some (translation (record { stu = q.stu; range = r }) (q.whole - q.due))) (translation_range_units (stale_translation q) ∙ sym (translation_range_units q))
 
 pub stale_pending : (o : TagState) → pending_of (stale_state o) ≡ pending_of o
 stale_pending Free = refl
@@ -95,8 +94,8 @@ module _ (range : Range) (i : ITag) where
           outside : (k : ℕ) (d : Reply) (x : Cached) → is_replied (asked_by q) k d x ≡ true
               → terms.entry_in range x ≡ true → ⊥
           outside k d x g m =
-              let a = and_both (eqb x.stu q.stu) _ g in
+              let a = and_both (eqb x.stu q.stu) _ (and_both x.used _ g).1 in
               let s : x.stu ≡ q.stu = eqb-true x.stu q.stu a.0 in
               let in_range : is_within (region_of x.entry.unit (unit_exponent q.stu)) (translation_range q) ≡ true = (and_both _ _ a.1).0 in
-              let over : overlaps (region_of x.entry.unit (unit_exponent x.stu)) range ≡ true = (and_both x.entry.used _ m).1 in
+              let over : overlaps (region_of x.entry.unit (unit_exponent x.stu)) range ≡ true = (and_both x.used _ m).1 in
               never_both _ (within_overlaps (region_of x.entry.unit (unit_exponent q.stu)) (translation_range q) range in_range (rw s at over)) (sym (overlaps_translation range q) ∙ u)

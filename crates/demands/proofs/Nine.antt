@@ -1,9 +1,9 @@
 -- An Invalidate Request is refused with 9 exactly while its ticket waits.
-use mathlib.Core.Path.{◌≡◌, refl, sym, ◌∙◌}
+use Rattle.std.specs.Prelude.{Err, None, Ok, Option, Result, Some}
+use mathlib.Core.Path.{◌≡◌, refl, sym}
 use mathlib.Core.Logic.{◌↔◌}
 use mathlib.Core.Bool.{true, false, not, cond, ◌&&◌}
 use mathlib.Core.List.{List}
-use mathlib.Core.Option.{Option, none, some}
 use Prim.Native.Nat.{ℕ}
 use lib.Dec.{eqb}
 use borrow.Author.Tests.{eqb-true, eq-eqb, lt-ltb}
@@ -16,13 +16,10 @@ use Rattle.packet.specs.declared.Outcome.{Outcome}
 use Rattle.packet.specs.declared.Outcome.TheVariants.{Data, Status}
 use Rattle.packet.specs.declared.Body.{Body}
 use Rattle.packet.specs.declared.Body.TheVariants.{Tr, Mem, Cpl, Inv, Ic, Prq, Prs}
-use Rattle.packet.specs.Numbers.{Result, ok, refusal}
 use Rattle.packet.specs.Reading.{reading, payload_in}
 use Rattle.tags.specs.Itags.{bit_index, is_in}
 use Rattle.tags.proofs.Laws.{in_bit_index}
 use Rattle.state.specs.declared.Function.{Function}
-use Rattle.state.specs.declared.Agent.{Agent}
-use Rattle.state.specs.declared.Agent.TheVariants.{Unknown, Known}
 use Rattle.state.specs.Answers.{commit, sends_nothing, done}
 use Rattle.on_invalidate.specs.Invalidate.{is_other_agent, invalidated_by, invalidated}
 use Rattle.call_receive.specs.Receive.{taken, received}
@@ -31,10 +28,10 @@ use Rattle.card.specs.declared.Command.TheVariants.{Reset, Enable, Disable, Ask 
 use Rattle.card.specs.Call.{calling, step}
 use Rattle.demand3.specs.Seen.{Ticket, Taken, CPL, INV}
 use Rattle.demands.specs.Observed.{terms, Noted, is_refused_with, is_listed, outcome_taken, body_taken, packet_taken, call_taken}
-use Rattle.demands.proofs.Views.{is_agent, view, Ok}
+use Rattle.demands.proofs.Views.{is_agent, view, Proper}
 use Rattle.demands.proofs.Invalidates.{place_lt}
 
-module _ (me : Noted) (f : Function) (o : Ok me f) (out : List ℕ) (from : ℕ) (i : InvalidateRequest) where
+module _ (me : Noted) (f : Function) (o : Proper me f) (out : List ℕ) (from : ℕ) (i : InvalidateRequest) where
   listed : is_listed f.waiting (bit_index i.itag) ≡ is_in f.waiting i.itag
   listed = rw (lt-ltb (bit_index i.itag) 32 (place_lt i.itag)) (in_bit_index f.waiting i.itag)
 
@@ -43,37 +40,37 @@ module _ (me : Noted) (f : Function) (o : Ok me f) (out : List ℕ) (from : ℕ)
   unfolding invalidated
   nine = rw listed (go f.agent refl)
     where
-      go : (g : Agent) → f.agent ≡ g
-          → (is_refused_with 9 (commit f out (cond (is_other_agent g from) (refusal 10) (cond (is_in f.waiting i.itag) (refusal 9) (sends_nothing (invalidated_by f from i) done)))).answer ≡ true) ↔ ((is_agent g from && is_in f.waiting i.itag) ≡ true)
-      go Unknown e = by_cases (is_in f.waiting i.itag) (λ w. absurd (o.known i.itag w e)) (λ w. rw w (λ h. no_tf (sym h), λ h. no_tf (sym h)))
-      go (Known id) e = by_cases (eqb id from) (λ u. ours (eqb-true id from u)) (λ u. rw (u, other u) (λ h. no_tf (sym h), λ h. no_tf (sym h)))
+      go : (g : Option ℕ) → f.agent ≡ g
+          → (is_refused_with 9 (commit f out (cond (is_other_agent g from) (Err 10) (cond (is_in f.waiting i.itag) (Err 9) (sends_nothing (invalidated_by f from i) done)))).answer ≡ true) ↔ ((is_agent g from && is_in f.waiting i.itag) ≡ true)
+      go None e = by_cases (is_in f.waiting i.itag) (λ w. absurd (o.known i.itag w e)) (λ w. rw w (λ h. no_tf (sym h), λ h. no_tf (sym h)))
+      go (Some id) e = by_cases (eqb id from) (λ u. ours (eqb-true id from u)) (λ u. rw (u, other u) (λ h. no_tf (sym h), λ h. no_tf (sym h)))
         where
           other : eqb id from ≡ false → eqb from id ≡ false
           other u =
               by_cases (eqb from id) (λ v. absurd (never_both _ (eq-eqb id from (sym (eqb-true from id v))) u)) (λ v. v)
 
           ours : id ≡ from
-              → (is_refused_with 9 (commit f out (cond (not (eqb id from)) (refusal 10) (cond (is_in f.waiting i.itag) (refusal 9) (sends_nothing (invalidated_by f from i) done)))).answer ≡ true) ↔ ((eqb from id && is_in f.waiting i.itag) ≡ true)
+              → (is_refused_with 9 (commit f out (cond (not (eqb id from)) (Err 10) (cond (is_in f.waiting i.itag) (Err 9) (sends_nothing (invalidated_by f from i) done)))).answer ≡ true) ↔ ((eqb from id && is_in f.waiting i.itag) ≡ true)
           ours s = rw (s, eq-eqb from from refl) (by_cases (is_in f.waiting i.itag) (λ w. rw w (λ h. refl, λ h. refl)) (λ w. rw w (λ h. no_tf (sym h), λ h. no_tf (sym h))))
 
 -- an Invalidate Request for the Function is refused with 9 exactly while its ticket waits
-module _ (me : Noted) (f : Function) (o : Ok me f) (bytes out : List ℕ) (i : Ticket) (a : Range) where
+module _ (me : Noted) (f : Function) (o : Proper me f) (bytes out : List ℕ) (i : Ticket) (a : Range) where
   abbrev Busy : Type 0
   Busy = (is_refused_with 9 (step f Receive bytes out).answer ≡ true) ↔ ((view f).waiting i ≡ true)
 
-  of_body : (p : Packet) → reading bytes ≡ ok p → (b : Body) → p.body ≡ b
-      → body_taken me (payload_in bytes) p.head.sender b ≡ some (INV i a) → Busy
+  of_body : (p : Packet) → reading bytes ≡ Ok p → (b : Body) → p.body ≡ b
+      → body_taken me (payload_in bytes) p.head.sender b ≡ Some (INV i a) → Busy
   unfolding calling received taken
   of_body p r (Tr t) is e = no_some e
   of_body p r (Mem m) is e = no_some e
   of_body p r (Cpl c) is e =
       by_cases (eqb c.requester me.id) (λ u. of_outcome c.outcome (rw u at e)) (λ u. no_some (rw u at e))
     where
-      of_outcome : (x : Outcome) → outcome_taken c.tag.0 c.count (payload_in bytes) x ≡ some (INV i a) → Busy
+      of_outcome : (x : Outcome) → outcome_taken c.tag.0 c.count (payload_in bytes) x ≡ Some (INV i a) → Busy
       of_outcome (Data n) e = impossible cc
       of_outcome (Status n) e = by_cases (eqb n 0) (λ u. no_some (rw u at e)) (λ u. not_this n (rw u at e))
         where
-          not_this : (n : ℕ) → ◌≡◌ {A = Option (Taken terms)} (some (CPL c.tag.0 n none)) (some (INV i a)) → Busy
+          not_this : (n : ℕ) → ◌≡◌ {A = Option (Taken terms)} (Some (CPL c.tag.0 n None)) (Some (INV i a)) → Busy
           not_this n e = impossible cc
   of_body p r (Inv v) is e =
       by_cases (eqb v.device me.id)
@@ -82,18 +79,18 @@ module _ (me : Noted) (f : Function) (o : Ok me f) (bytes out : List ℕ) (i : T
       rw (r, is, rw (← o.own) at u, ← same) k)
       (λ u. no_some (rw u at e))
     where
-      ticket_is : {x : Ticket} {y : Range} → ◌≡◌ {A = Option (Taken terms)} (some (INV x y)) (some (INV i a)) → x ≡ i
+      ticket_is : {x : Ticket} {y : Range} → ◌≡◌ {A = Option (Taken terms)} (Some (INV x y)) (Some (INV i a)) → x ≡ i
       ticket_is e = cc
   of_body p r (Ic c) is e = no_some e
   of_body p r (Prq c) is e = no_some e
   of_body p r (Prs c) is e = no_some e
 
-  of_reading : (x : Result Packet) → reading bytes ≡ x → packet_taken me (payload_in bytes) x ≡ some (INV i a) → Busy
-  of_reading (ok p) r e = of_body p r p.body refl e
-  of_reading (refusal n) r e = no_some e
+  of_reading : (x : Result Packet ℕ) → reading bytes ≡ x → packet_taken me (payload_in bytes) x ≡ Some (INV i a) → Busy
+  of_reading (Ok p) r e = of_body p r p.body refl e
+  of_reading (Err n) r e = no_some e
 
-pub busy_law : (me : Noted) (f : Function) → Ok me f → (x : Command) (bytes out : List ℕ) (i : Ticket) (a : Range)
-    → call_taken me x bytes ≡ some (INV i a)
+pub busy_law : (me : Noted) (f : Function) → Proper me f → (x : Command) (bytes out : List ℕ) (i : Ticket) (a : Range)
+    → call_taken me x bytes ≡ Some (INV i a)
     → (is_refused_with 9 (step f x bytes out).answer ≡ true) ↔ ((view f).waiting i ≡ true)
 busy_law me f o (Reset y) bytes out i a e = no_some e
 busy_law me f o Enable bytes out i a e = no_some e

@@ -1,15 +1,14 @@
 -- The card satisfies demand 3.
+use Rattle.std.specs.Prelude.{Err, Ok, Result, None, Some}
 use mathlib.Core.Path.{◌≡◌, refl, sym, ap, ◌∙◌}
 use mathlib.Core.Bool.{Bool, true, false, not, cond, ◌&&◌}
 use mathlib.Core.List.{List, [], ◌++◌}
-use mathlib.Core.Option.{none, some}
 use Prim.Native.Nat.{ℕ, ◌^◌, ◌<◌}
 use lib.Dec.{leb, lit≤}
 use lib.ListN.{length, drop, take}
 use borrow.Author.Tests.{ltb-true}
 use Rattle.lemmas.proofs.Cases.{by_cases, and_both, never_both, impossible}
 use Rattle.ranges.specs.declared.Range.{Range}
-use Rattle.packet.specs.Numbers.{Result, ok, refusal}
 use Rattle.packet.specs.Reading.{reading}
 use Rattle.tlp.proofs.Laws.{nothing_reads}
 use Rattle.atc.specs.Cache.{entry_at, blank}
@@ -28,16 +27,16 @@ use Rattle.state.proofs.Laws.{Does, does_refusal}
 use Rattle.card.specs.declared.Command.{Command}
 use Rattle.card.specs.declared.Command.TheVariants.{Reset, Enable, Disable, Ask as Asks, Access as Accesses, Receive, Drain, PagesOn, PagesOff, PageRequest}
 use Rattle.card.specs.Call.{calling, step}
-use Rattle.lemmas.proofs.Bools.{no_tf}
+use Rattle.lemmas.proofs.Bools.{no_tf, no_some}
 use Rattle.demand3.specs.Seen.{Ticket}
-use Rattle.demand3.specs.History.{accepts, waits}
-use Rattle.demand3.specs.Runs.{Bench, resets, state_after, history, Unbroken}
+use Rattle.demand3.specs.History.{accepts}
+use Rattle.demand3.specs.Runs.{Bench, resets}
 use Rattle.demand3.specs.Order.{Order}
 use Rattle.demand3.proofs.Laws.{Step}
 use Rattle.demand3.proofs.Theorem.{Blank, Lawful, order}
 use Rattle.tlp.specs.Bytes.{are_bytes}
 use Rattle.demands.specs.Observed.{is_typed, Call, is_refused, is_reset, Noted, noted_after, call_taken, packet_sent, is_packet, card}
-use Rattle.demands.proofs.Views.{tag, pending_of, view, Ok, Good, good_plain, quiet, no_entry_lem}
+use Rattle.demands.proofs.Views.{tag, pending_of, view, Proper, Good, good_plain, quiet, no_entry_lem}
 use Rattle.demands.proofs.Sends.{same_ok, good_enable, good_ask, good_read, good_write, good_page}
 use Rattle.demands.proofs.Drains.{good_idle, good_drain}
 use Rattle.demands.proofs.Taken.{taken_law}
@@ -48,10 +47,10 @@ use Rattle.card.proofs.Cases.{Cases, cases}
 
 -- ---- one call
 
-module _ (me : Noted) (f : Function) (o : Ok me f) where
+module _ (me : Noted) (f : Function) (o : Proper me f) where
   module _ (bytes out : List ℕ) (are : are_bytes bytes ≡ true) where
     -- a call that is not an accepted reset preserves the invariant, and changes the views as the observer sees
-    abbrev Keeps : Command → Result Success → Type 0
+    abbrev Keeps : Command → Result Success ℕ → Type 0
     Keeps x s =
         (ty : is_typed x ≡ true) → (not (is_refused (commit f out s).answer) && is_reset x) ≡ false
         → Does (Good me f (record { command = x; bytes = bytes; out = out; typed = ty; octets = are })) s
@@ -96,27 +95,27 @@ module _ (me : Noted) (f : Function) (o : Ok me f) where
 
   -- the state after a call, and what the observer sees; a refused call changes nothing, and the observer sees nothing
   pub record Done (c : Call) (r : Observed) : Type 0 where
-    pub ok : Ok me r.state
+    pub ok : Proper me r.state
     pub step : Step 32 (view f) (view r.state)
         (record {
-          took = cond (is_refused r.answer) none (call_taken me c.command c.bytes);
+          took = cond (is_refused r.answer) None (call_taken me c.command c.bytes);
           sent = packet_sent me.stu c.command (reading (take r.sent r.buffer));
         })
     pub legible : is_packet me (take r.sent r.buffer) ≡ true
     pub written : r.buffer ≡ take r.sent r.buffer ++ drop (length (take r.sent r.buffer)) c.out
     pub apart : (i : Ticket) (a : Range)
-        → accepts i (cond (is_refused r.answer) none (call_taken me c.command c.bytes)) ≡ some a
+        → accepts i (cond (is_refused r.answer) None (call_taken me c.command c.bytes)) ≡ Some a
         → take r.sent r.buffer ≡ []
 
-  done : (c : Call) (s : Result Success) → Does (Good me f c) s → Done c (commit f c.out s)
-  done c (ok d) h =
+  done : (c : Call) (s : Result Success ℕ) → Does (Good me f c) s → Done c (commit f c.out s)
+  done c (Ok d) h =
       let g = h.success d refl in record { ok = g.ok; step = g.step; legible = g.legible; written = g.written; apart = g.apart }
-  done c (refusal n) h =
+  done c (Err n) h =
       record { ok = o; step = rw nothing_reads (quiet (view f)); legible = refl; written = refl; apart = λ i a e. refl }
 
 -- ---- a Function after a reset, or new
 
-pub fresh_ok : (id stu : ℕ) (rcb : Rcb) → id < 65536 → Ok (record { id = id; stu = stu }) (fresh id stu rcb)
+pub fresh_ok : (id stu : ℕ) (rcb : Rcb) → id < 65536 → Proper (record { id = id; stu = stu }) (fresh id stu rcb)
 fresh_ok id stu rcb h =
     record {
       unit = refl;
@@ -124,7 +123,7 @@ fresh_ok id stu rcb h =
       id = h;
       agent = lit≤ tt;
       cache = laws.new_sound;
-      reached = λ j. rw (laws.new_entry j) (lit≤ tt);
+      reached = λ j e h. no_some (sym (laws.new_entry j) ∙ h);
       tags = refl;
       begun = λ t q e. let z : Free ≡ Translate q = sym (free_tag_state t) ∙ e in impossible cc;
       vector = lit≤ tt;
@@ -151,13 +150,13 @@ same_notes false (PagesOn n) me e = refl
 same_notes false PagesOff me e = refl
 same_notes false (PageRequest q) me e = refl
 
-after_call : (s : Bench card) (c : Call) → resets card s c ≡ false → (o : Ok s.notes s.fn)
+after_call : (s : Bench card) (c : Call) → resets card s c ≡ false → (o : Proper s.notes s.fn)
     → Done s.notes s.fn o c (step s.fn c.command c.bytes c.out)
 after_call s c u o = done s.notes s.fn o c (calling s.fn c.command c.bytes c.out) (good s.notes s.fn o c.command c.bytes c.out c.typed c.octets u)
 
 -- an accepted reset leaves a fresh Function, and sends nothing
 pub record Afresh (me : Noted) (out : List ℕ) (r : Observed) : Type 0 where
-  pub ok : Ok me r.state
+  pub ok : Proper me r.state
   pub blank : Blank (view r.state)
   pub silent : take r.sent r.buffer ≡ []
   pub unwritten : r.buffer ≡ out
@@ -192,7 +191,7 @@ lawful =
     record {
       view = λ s. view s.fn;
       held = λ s j. refl;
-      Ok = λ s. Ok s.notes s.fn;
+      Proper = λ s. Proper s.notes s.fn;
       keeps = λ s c u o. rw (same_notes (is_refused (step s.fn c.command c.bytes c.out).answer) c.command s.notes u) (after_call s c u o).ok;
       law = λ s c u o. (after_call s c u o).step;
       legible = λ s c u o. (after_call s c u o).legible;

@@ -1,4 +1,5 @@
 -- The three demands are proved, without assumptions.
+use Rattle.std.specs.Prelude.{Option, None, Some}
 use Rattle.tlp.proofs.Forbidden.{reads_by_phrases, writes_by_phrases}
 use Rattle.tlp.proofs.RoundTrips.{written_reads, written_payload, read_written, read_writes}
 use native.Mathlib.Omega.{arith}
@@ -11,7 +12,6 @@ use Rattle.demands.proofs.Order.{keeps_order}
 use mathlib.Core.Path.{◌≡◌, refl, sym}
 use mathlib.Core.Bool.{true, ◌&&◌}
 use mathlib.Core.List.{[]}
-use mathlib.Core.Option.{Option, none, some}
 use Prim.Native.Nat.{ℕ, ◌-◌}
 use Rattle.lemmas.proofs.Cases.{and_both}
 use Rattle.lemmas.proofs.Bools.{no_tf}
@@ -42,10 +42,10 @@ covers : Covers terms
 covers a e b k o s = go b.address refl
   where
     go : (x : Option ℕ) → b.address ≡ x → terms.entry_in a e ≡ true
-    go none n = no_tf (sym (rw n at s))
-    go (some x) n =
-        let t : (e.entry.used && _) ≡ true = rw n at s in
-        let used = and_both e.entry.used _ t in
+    go None n = no_tf (sym (rw n at s))
+    go (Some x) n =
+        let t : (e.used && _) ≡ true = rw n at s in
+        let used = and_both e.used _ t in
         let inside = and_both (is_within (range_from x (b.bytes - 1)) (region_of e.entry.unit (unit_exponent e.stu))) _ used.1 in
         rw used.0 (within_overlaps (range_from x (b.bytes - 1)) (region_of e.entry.unit (unit_exponent e.stu)) a inside.0 (rw n at o))
 

@@ -1,4 +1,5 @@
 -- A packet that is not refused is one that the Function takes.
+use Rattle.std.specs.Prelude.{Err, Ok, Result}
 use mathlib.Core.Path.{◌≡◌, refl}
 use mathlib.Core.Bool.{true, false}
 use mathlib.Core.List.{List}
@@ -6,7 +7,6 @@ use Prim.Native.Nat.{ℕ}
 use lib.Dec.{eqb}
 use Rattle.packet.specs.declared.Body.{Body}
 use Rattle.packet.specs.declared.Body.TheVariants.{Cpl, Inv, Prs}
-use Rattle.packet.specs.Numbers.{Result, ok, refusal}
 use Rattle.state.specs.declared.Function.{Function}
 use Rattle.state.specs.Answers.{Success, commit}
 use Rattle.state.proofs.Laws.{Does, does_refusal}
@@ -16,12 +16,12 @@ use Rattle.card.specs.Call.{calling, step}
 use Rattle.card.proofs.Cases.{Arrives, Cases, cases}
 use Rattle.lemmas.proofs.Bools.{no_tf}
 use Rattle.demands.specs.Observed.{Noted, is_refused, is_taken, is_for_body}
-use Rattle.demands.proofs.Views.{Ok}
+use Rattle.demands.proofs.Views.{Proper}
 
-always : (Q : Type 0) (s : Result Success) → Q → Does (λ d. Q) s
+always : (Q : Type 0) (s : Result Success ℕ) → Q → Does (λ d. Q) s
 always Q s q = record { success = λ d e. q }
 
-module _ (me : Noted) (f : Function) (o : Ok me f) (bytes out : List ℕ) where
+module _ (me : Noted) (f : Function) (o : Proper me f) (bytes out : List ℕ) where
   arrives : (b : Body) (to : ℕ) → Arrives f bytes b to → is_for_body me b ≡ eqb to me.id
       → is_taken me Receive bytes ≡ true
   arrives b to a e = rw (a.reads, a.is, e) (rw o.own at a.ours)
@@ -59,11 +59,11 @@ module _ (me : Noted) (f : Function) (o : Ok me f) (bytes out : List ℕ) where
         stops_pages = λ s a. always _ _ (arrives (Prs s) s.device a refl);
       }
 
-pub taken_law : (me : Noted) (f : Function) → Ok me f → (x : Command) (bytes out : List ℕ)
+pub taken_law : (me : Noted) (f : Function) → Proper me f → (x : Command) (bytes out : List ℕ)
     → is_refused (step f x bytes out).answer ≡ false → is_taken me x bytes ≡ true
 taken_law me f o x bytes out r = go (calling f x bytes out) (cases f bytes out _ (each me f o bytes out) x) r
   where
-    go : (s : Result Success) → Does (λ d. is_taken me x bytes ≡ true) s → is_refused (commit f out s).answer ≡ false
+    go : (s : Result Success ℕ) → Does (λ d. is_taken me x bytes ≡ true) s → is_refused (commit f out s).answer ≡ false
         → is_taken me x bytes ≡ true
-    go (ok d) h r = h.success d refl
-    go (refusal n) h r = no_tf r
+    go (Ok d) h r = h.success d refl
+    go (Err n) h r = no_tf r

@@ -7,10 +7,9 @@
 --   Demand 1 · `Demand1`, proved by `demand_1` in proofs/Proved.antt
 --   Demand 2 · `Demand2`, proved by `demand_2`; its content is in the definitions of packets and calls
 --   Demand 3 · `Demand3`, proved by `demand_3`
-use Rattle.std.specs.Prelude.{◌≡◌, true, List, ℕ, ◌≤◌, length}
+use Rattle.std.specs.Prelude.{◌≡◌, true, List, ℕ, ◌≤◌, length, Err, Ok}
 use Rattle.ranges.specs.declared.Range.{Range}
 use Rattle.packet.specs.declared.Packet.{Packet}
-use Rattle.packet.specs.Numbers.{ok, refusal}
 use Rattle.packet.specs.Among.{is_among}
 use Rattle.packet.specs.Reading.{reading, payload_in}
 use Rattle.packet.specs.Writing.{writing, bytes_of}
@@ -46,7 +45,7 @@ pub record Refusing (f : Function) (c : Command) (bytes out : List ℕ) (n : ℕ
 
 abbrev pub Demand1 : Type 0
 Demand1 =
-    (f : Function) (c : Command) (bytes out : List ℕ) (n : ℕ) → (step f c bytes out).answer ≡ refusal n
+    (f : Function) (c : Command) (bytes out : List ℕ) (n : ℕ) → (step f c bytes out).answer ≡ Err n
     → Refusing f c bytes out n
 
 -- ---- DEMAND 2: packets and states are those of the papers, and no other.
@@ -61,10 +60,10 @@ Demand1 =
 
 pub record Demand2 : Type 2 where
   pub code : {M : Type 1} → CallMeetsItsContract M
-  pub written : (p : Packet) (payload : List ℕ) (room n : ℕ) → Typed p → writing p (length payload) room ≡ ok n
-      → (reading (bytes_of p payload) ≡ ok p) × (payload_in (bytes_of p payload) ≡ payload)
-  pub read : (b : List ℕ) (p : Packet) → Bytes b → reading b ≡ ok p
-      → (writing p (length (payload_in b)) (length b) ≡ ok (length b)) × (bytes_of p (payload_in b) ≡ normal b)
+  pub written : (p : Packet) (payload : List ℕ) (room n : ℕ) → Typed p → writing p (length payload) room ≡ Ok n
+      → (reading (bytes_of p payload) ≡ Ok p) × (payload_in (bytes_of p payload) ≡ payload)
+  pub read : (b : List ℕ) (p : Packet) → Bytes b → reading b ≡ Ok p
+      → (writing p (length (payload_in b)) (length b) ≡ Ok (length b)) × (bytes_of p (payload_in b) ≡ normal b)
   pub forbids : (b : List ℕ) → reading b ≡ reading_by_phrases b
   pub forbids_writing : (p : Packet) (load room : ℕ) → Typed p → writing p load room ≡ writing_by_phrases p load room
   pub starts : (id stu : ℕ) (rcb : Rcb) → Sound (fresh id stu rcb)

@@ -1,11 +1,11 @@
 -- What an observer sees of the card, and what its cache holds: the words of demand 3. Serves 01, "How much each call must settle".
-use Rattle.std.specs.Prelude.{◌≡◌, Bool, true, false, not, cond, ◌&&◌, ◌||◌, List, ℕ, ◌-◌, ◌*◌, ◌/◌, ◌^◌, eqb, leb, ltb, length}
+use Rattle.std.specs.Prelude.{◌≡◌, Bool, true, false, not, cond, ◌&&◌, ◌||◌, List, ℕ, ◌-◌, ◌*◌, ◌/◌, ◌^◌, eqb, leb, ltb, length, Err, Ok, Result, Option, None, Some}
 use Rattle.std.specs.Bool.{beq}
-use Rattle.std.proofs.Math.Option.{Option, none, some}
 use Rattle.ranges.specs.declared.Range.{Range}
 use Rattle.ranges.specs.declared.Translation.{Translation}
 use Rattle.ranges.specs.Range.{region_of, rounded_of, range_from, units_from, unit_exponent, overlaps, relocated, is_within}
 use Rattle.ranges.specs.Size.{size_of}
+use Rattle.std.specs.Option.{option_map}
 use Rattle.packet.specs.declared.ITag.{ITag}
 use Rattle.packet.specs.declared.Access.{Access}
 use Rattle.packet.specs.declared.Access.TheVariants.{Read, Write}
@@ -14,7 +14,6 @@ use Rattle.packet.specs.declared.Outcome.TheVariants.{Data, Status}
 use Rattle.packet.specs.declared.Body.{Body}
 use Rattle.packet.specs.declared.Body.TheVariants.{Tr, Mem, Cpl, Inv, Ic, Prq, Prs}
 use Rattle.packet.specs.declared.Packet.{Packet}
-use Rattle.packet.specs.Numbers.{Result, ok, refusal}
 use Rattle.packet.specs.Forms.{dword_count}
 use Rattle.packet.specs.Kinds.{attr_bits}
 use Rattle.packet.specs.Reading.{reading, payload_in}
@@ -59,16 +58,16 @@ pub record Reply : Type 0 where
   pub count : ℕ
   pub load : List ℕ
 
--- an entry, with the current STU
+-- an entry, with the current STU; `used` is false where a machine shows it as a free slot
 pub record Cached : Type 0 where
+  pub used : Bool
   pub stu : ℕ
   pub entry : Entry
 
 abbrev pub same_entry : Entry → Entry → Bool
 same_entry x y =
-    beq x.used y.used
-    && (beq x.r y.r && (beq x.w y.w && (beq x.n y.n && (beq x.u y.u
-    && (eqb x.unit y.unit && eqb x.to y.to)))))
+    beq x.r y.r && (beq x.w y.w && (beq x.n y.n && (beq x.u y.u
+    && (eqb x.unit y.unit && eqb x.to y.to))))
 
 -- this translation of 2 ^ e bytes grants the entry
 abbrev pub is_granted : Translation → ℕ → Entry → Bool
@@ -87,14 +86,14 @@ is_given first regions load x =
 -- earlier packet, grants the entry
 abbrev pub is_replied : Asked → ℕ → Reply → Cached → Bool
 is_replied q came d x =
-    eqb x.stu q.stu
-    && (is_within (region_of x.entry.unit (unit_exponent q.stu)) q.range && is_given q.range.first (came / 8) d.load x.entry)
+    x.used && (eqb x.stu q.stu
+    && (is_within (region_of x.entry.unit (unit_exponent q.stu)) q.range && is_given q.range.first (came / 8) d.load x.entry))
 
 -- the entry is in use, its unit holds all the bytes, and the address sent has the same offset in the translated unit
 abbrev pub is_served : Cached → Wanted → ℕ → Bool
 is_served x b to =
     given b.address
-    (λ a. x.entry.used && (is_within (range_from a (b.bytes - 1)) (region_of x.entry.unit (unit_exponent x.stu))
+    (λ a. x.used && (is_within (range_from a (b.bytes - 1)) (region_of x.entry.unit (unit_exponent x.stu))
     && (not x.entry.u && eqb to (relocated x.entry.to a (unit_exponent x.stu)))))
     false
 
@@ -107,7 +106,7 @@ terms =
       Data = Reply;
       Entry = Cached;
       access_in = λ a b. given b.address (λ x. overlaps (range_from x (b.bytes - 1)) a) true;
-      entry_in = λ a x. entry_overlaps x.stu a x.entry;
+      entry_in = λ a x. x.used && entry_overlaps x.stu a x.entry;
       wanted = λ b. b.bytes;
       size = λ d. length d.load;
       count = λ d. d.count;
@@ -141,16 +140,16 @@ pub record Call : Type 0 where
 
 -- its answer, and the reported length of the packet sent
 pub record Answered : Type 0 where
-  pub answer : Result Unrefused
+  pub answer : Result Unrefused ℕ
   pub sent : ℕ
 
-abbrev pub is_refused : {A : Type 0} → Result A → Bool
-is_refused (ok w) = false
-is_refused (refusal n) = true
+abbrev pub is_refused : {A : Type 0} → Result A ℕ → Bool
+is_refused (Ok w) = false
+is_refused (Err n) = true
 
-abbrev pub is_refused_with : {A : Type 0} → ℕ → Result A → Bool
-is_refused_with n (ok w) = false
-is_refused_with n (refusal m) = eqb n m
+abbrev pub is_refused_with : {A : Type 0} → ℕ → Result A ℕ → Bool
+is_refused_with n (Ok w) = false
+is_refused_with n (Err m) = eqb n m
 
 -- The commands that demand 3 tells apart: a reset, an access, a received packet and a drain.
 pub record Role : Type 0 where
@@ -160,16 +159,16 @@ pub record Role : Type 0 where
   pub drains : Bool
 
 abbrev pub no_role : Role
-no_role = record { reset = none; access = none; receives = false; drains = false }
+no_role = record { reset = None; access = None; receives = false; drains = false }
 
 abbrev pub role_of : Command → Role
-role_of (Reset a) = record { reset = some a; access = none; receives = false; drains = false }
+role_of (Reset a) = record { reset = Some a; access = None; receives = false; drains = false }
 role_of Enable = no_role
 role_of Disable = no_role
 role_of (Ask a) = no_role
-role_of (Accesses a) = record { reset = none; access = some a; receives = false; drains = false }
-role_of Receive = record { reset = none; access = none; receives = true; drains = false }
-role_of Drain = record { reset = none; access = none; receives = false; drains = true }
+role_of (Accesses a) = record { reset = None; access = Some a; receives = false; drains = false }
+role_of Receive = record { reset = None; access = None; receives = true; drains = false }
+role_of Drain = record { reset = None; access = None; receives = false; drains = true }
 role_of (PagesOn n) = no_role
 role_of PagesOff = no_role
 role_of (PageRequest q) = no_role
@@ -194,36 +193,36 @@ same_direction ToWrite ToWrite = true
 
 abbrev pub address_for : Direction → Command → Option ℕ
 address_for direction c =
-    given (role_of c).access (λ a. cond (same_direction direction a.direction) (some a.address) none) none
+    given (role_of c).access (λ a. cond (same_direction direction a.direction) (Some a.address) None) None
 
 -- what a completion delivers: data, or a status that ends its request
 abbrev pub outcome_taken : ℕ → ℕ → List ℕ → Outcome → Option (Taken terms)
-outcome_taken tag count load (Data dwords) = some (CPL tag 0 (some (record { count = count; load = load })))
-outcome_taken tag count load (Status status) = cond (eqb status 0) none (some (CPL tag status none))
+outcome_taken tag count load (Data dwords) = Some (CPL tag 0 (Some (record { count = count; load = load })))
+outcome_taken tag count load (Status status) = cond (eqb status 0) None (Some (CPL tag status None))
 
 -- what a received packet delivers: a completion for this Function, or an Invalidate Request with its sender and
 -- its range rounded up to the unit
 abbrev pub body_taken : Noted → List ℕ → ℕ → Body → Option (Taken terms)
-body_taken me load from (Tr t) = none
-body_taken me load from (Mem m) = none
+body_taken me load from (Tr t) = None
+body_taken me load from (Mem m) = None
 body_taken me load from (Cpl c) =
-    cond (eqb c.requester me.id) (outcome_taken c.tag.0 c.count load c.outcome) none
+    cond (eqb c.requester me.id) (outcome_taken c.tag.0 c.count load c.outcome) None
 body_taken me load from (Inv i) =
     cond (eqb i.device me.id)
-    (some (INV (record { agent = from; number = bit_index i.itag }) (rounded_of i.address (exponent_or64 (size_of i.address i.sized)) (unit_exponent me.stu))))
-    none
-body_taken me load from (Ic i) = none
-body_taken me load from (Prq q) = none
-body_taken me load from (Prs s) = none
+    (Some (INV (record { agent = from; number = bit_index i.itag }) (rounded_of i.address (exponent_or64 (size_of i.address i.sized)) (unit_exponent me.stu))))
+    None
+body_taken me load from (Ic i) = None
+body_taken me load from (Prq q) = None
+body_taken me load from (Prs s) = None
 
-abbrev pub packet_taken : Noted → List ℕ → Result Packet → Option (Taken terms)
-packet_taken me load (ok p) = body_taken me load p.head.sender p.body
-packet_taken me load (refusal n) = none
+abbrev pub packet_taken : Noted → List ℕ → Result Packet ℕ → Option (Taken terms)
+packet_taken me load (Ok p) = body_taken me load p.head.sender p.body
+packet_taken me load (Err n) = None
 
 abbrev pub call_taken : Noted → Command → List ℕ → Option (Taken terms)
 call_taken me c bytes =
     cond (role_of c).receives (packet_taken me (payload_in bytes) (reading bytes))
-    (cond (role_of c).drains (some (DRAIN (λ i. true))) none)
+    (cond (role_of c).drains (Some (DRAIN (λ i. true))) None)
 
 -- a received packet is of a kind that the Function takes, and for it
 abbrev pub is_for_body : Noted → Body → Bool
@@ -235,9 +234,9 @@ is_for_body me (Ic i) = false
 is_for_body me (Prq q) = false
 is_for_body me (Prs s) = eqb s.device me.id
 
-abbrev pub is_for : Noted → Result Packet → Bool
-is_for me (refusal n) = false
-is_for me (ok p) = is_for_body me p.body
+abbrev pub is_for : Noted → Result Packet ℕ → Bool
+is_for me (Err n) = false
+is_for me (Ok p) = is_for_body me p.body
 
 abbrev pub is_taken : Noted → Command → List ℕ → Bool
 is_taken me c bytes = not (role_of c).receives || is_for me (reading bytes)
@@ -252,23 +251,23 @@ is_listed v k = ltb k 32 && is_in v (itag k)
 -- what a packet sends: a Translation Request, a read, a write or an Invalidate Completion
 abbrev pub access_sent : Command → ℕ → ℕ → Bool → Access → Option (Sent terms)
 access_sent c dwords to translated (Read t) =
-    some (READ t.0 translated (record { address = address_for ToRead c; bytes = 4 * dword_count dwords }) to)
+    Some (READ t.0 translated (record { address = address_for ToRead c; bytes = 4 * dword_count dwords }) to)
 access_sent c dwords to translated Write =
-    some (WRITE translated (record { address = address_for ToWrite c; bytes = 4 * dword_count dwords }) to)
+    Some (WRITE translated (record { address = address_for ToWrite c; bytes = 4 * dword_count dwords }) to)
 
 abbrev pub body_sent : ℕ → Command → Body → Option (Sent terms)
 body_sent stu c (Tr t) =
-    some (TR t.tag.0 (record { stu = stu; range = units_from t.address (dword_count t.dwords / 2 - 1) stu }))
+    Some (TR t.tag.0 (record { stu = stu; range = units_from t.address (dword_count t.dwords / 2 - 1) stu }))
 body_sent stu c (Mem m) = access_sent c m.dwords m.address m.translated m.access
-body_sent stu c (Cpl x) = none
-body_sent stu c (Inv i) = none
-body_sent stu c (Ic i) = some (IC i.device (is_listed i.vector))
-body_sent stu c (Prq q) = none
-body_sent stu c (Prs s) = none
+body_sent stu c (Cpl x) = None
+body_sent stu c (Inv i) = None
+body_sent stu c (Ic i) = Some (IC i.device (is_listed i.vector))
+body_sent stu c (Prq q) = None
+body_sent stu c (Prs s) = None
 
-abbrev pub packet_sent : ℕ → Command → Result Packet → Option (Sent terms)
-packet_sent stu c (ok p) = body_sent stu c p.body
-packet_sent stu c (refusal n) = none
+abbrev pub packet_sent : ℕ → Command → Result Packet ℕ → Option (Sent terms)
+packet_sent stu c (Ok p) = body_sent stu c p.body
+packet_sent stu c (Err n) = None
 
 -- a packet of a kind that the Function sends; an Invalidate Completion has Completion Count 1 and completes something
 abbrev pub is_sole : Body → Bool
@@ -281,10 +280,10 @@ is_sole (Prq q) = true
 is_sole (Prs s) = false
 
 -- with its ID, on Traffic Class 0, with zeros in Attr
-abbrev pub is_ours : Noted → Result Packet → Bool
-is_ours me (ok p) =
+abbrev pub is_ours : Noted → Result Packet ℕ → Bool
+is_ours me (Ok p) =
     eqb p.head.sender me.id && (eqb p.head.tc 0 && (eqb (attr_bits p.head.attr) 0 && is_sole p.body))
-is_ours me (refusal n) = false
+is_ours me (Err n) = false
 
 -- bytes that are read as such a packet, or no bytes
 abbrev pub is_packet : Noted → List ℕ → Bool
@@ -312,9 +311,13 @@ observer =
       tags = 32;
     }
 
+-- the entry in a slot, with the current STU
+abbrev pub slot_held : ℕ → Option Entry → Option Cached
+slot_held stu slot = option_map (λ e. record { used = true; stu = stu; entry = e }) slot
+
 -- the entries of the cache
 abbrev pub held_in : Function → ℕ → Option Cached
-held_in f j = cond (entry_at f.cache j).used (some (record { stu = f.stu; entry = entry_at f.cache j })) none
+held_in f j = slot_held f.stu (entry_at f.cache j)
 
 -- the card: its calls do what `step` says, to which their contracts refer
 abbrev pub card : Machine observer

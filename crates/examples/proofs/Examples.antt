@@ -1,4 +1,5 @@
 -- The examples of document 01, and of the requests of document 02, proved for the definitions: one list, under one statement.
+use Rattle.std.specs.Prelude.{Err, None, Ok, Option, Result, Some}
 use mathlib.Core.Path.{◌≡◌, refl}
 use mathlib.Core.Bool.{true, false, cond}
 use mathlib.Core.List.{List, [], ◌∷◌, ◌++◌}
@@ -8,7 +9,6 @@ use Rattle.packet.specs.declared.Packet.{Packet}
 use Rattle.packet.specs.declared.Body.TheVariants.{Tr, Inv, Ic, Prq}
 use Rattle.packet.specs.declared.InvalidateRequest.{InvalidateRequest}
 use Rattle.packet.specs.declared.PageRequest.{PageRequest}
-use Rattle.packet.specs.Numbers.{ok, refusal, Result}
 use Rattle.packet.specs.Frames.{four_bytes}
 use Rattle.packet.specs.Kinds.{attr_zero}
 use Rattle.packet.specs.Reading.{reading}
@@ -18,8 +18,6 @@ use Rattle.lister.specs.Line.{line_read, line_text}
 use Rattle.rows.specs.Rows.{out_line}
 use Rattle.text.specs.Digits.{all_hex, unhex, decimal, decimal_in}
 use Rattle.ranges.specs.declared.Translation.{Translation}
-use Rattle.ranges.specs.declared.Size.{Size}
-use Rattle.ranges.specs.declared.Size.TheVariants.{Exponent, NoSize}
 use Rattle.ranges.specs.Size.{size_of, translation_of, coded, word_of}
 use lib.Dec.{ltb}
 use lib.ListN.{replicate, set, take}
@@ -58,7 +56,7 @@ Hold [] = Unit {0}
 Hold (e ∷ es) = (e.left ≡ e.right) × Hold es
 
 -- a region of 2 ^ e bytes at a base, none of N, U, W and R set
-abbrev translation_at_base : ℕ → Size → Translation
+abbrev translation_at_base : ℕ → Option ℕ → Translation
 translation_at_base base size = record { base = base; size = size; n = false; u = false; w = false; r = false }
 
 -- an Invalidate Request with this body, ITag 3, from 0200h to 0100h
@@ -114,7 +112,7 @@ function_after f [] = f
 function_after f (c ∷ cs) = function_after (step f c.0 c.1 buffer).state cs
 
 -- the answer of a call
-abbrev answer : Function → Command → List ℕ → Result Unrefused
+abbrev answer : Function → Command → List ℕ → Result Unrefused ℕ
 answer f c bytes = (step f c bytes buffer).answer
 
 abbrev started : ℕ → Function
@@ -130,11 +128,11 @@ reply high low =
     four_bytes 0x4A00_0002 ++ four_bytes 0x0008_0008 ++ four_bytes 0x0100_0038 ++ four_bytes high ++ four_bytes low
 
 -- and with what it sends: the answer, the length, the buffer after the call
-abbrev outcome : Function → Command → List ℕ → Result Unrefused × ℕ × List ℕ
+abbrev outcome : Function → Command → List ℕ → Result Unrefused ℕ × ℕ × List ℕ
 outcome f c bytes = let r = step f c bytes buffer in (r.answer, r.sent, r.buffer)
 
 -- the address that a read of one DWORD goes to, or why it is refused
-abbrev reads : Function → ℕ → Result Target
+abbrev reads : Function → ℕ → Result Target ℕ
 reads f address = looking_up f (record { direction = ToRead; address = address; dwords = 1 }) 0
 
 -- example 1: 3 units from 0 at STU 0, translated to 16384 bytes at 4000 0000h with R and W, then an Invalidate Request
@@ -171,56 +169,56 @@ host_reply high low =
 
 abbrev host_answers : Reply → ℕ → ℕ → List ℕ → Observation
 host_answers what length visited buffer =
-    record { answer = ok (record { reply = what; length = length; visited = visited }); buffer = buffer }
+    record { answer = Ok (record { reply = what; length = length; visited = visited }); buffer = buffer }
 
 abbrev examples : List Example
 examples =
     -- 1: the body of a request, and a translation: 8192 bytes at 0; 16384 at 0
-    reading (invalidate 0 0x0800) is ok (invalidation 0)
-    ∷ size_of 0 true is Exponent 13
-    ∷ translation_of 0x0800 is translation_at_base 0 (Exponent 13)
-    ∷ reading (invalidate 0 0x1800) is ok (invalidation 0x1000)
-    ∷ size_of 0x1000 true is Exponent 14
-    ∷ translation_of 0x1800 is translation_at_base 0 (Exponent 14)
+    reading (invalidate 0 0x0800) is Ok (invalidation 0)
+    ∷ size_of 0 true is Some 13
+    ∷ translation_of 0x0800 is translation_at_base 0 (Some 13)
+    ∷ reading (invalidate 0 0x1800) is Ok (invalidation 0x1000)
+    ∷ size_of 0x1000 true is Some 14
+    ∷ translation_of 0x1800 is translation_at_base 0 (Some 14)
     -- as a range at 0, and as the result of a read after the call
     ∷ invalidated_range 0 (invalidate_request 0) is record { first = 0; last = 0x1FFF }
     ∷ invalidated_range 0 (invalidate_request 0x1000) is record { first = 0; last = 0x3FFF }
-    ∷ reads (invalidated_by_lem 0x0800) 0x1FFC is refusal 13
-    ∷ reads (invalidated_by_lem 0x0800) 0x2000 is ok (record { address = 0x4000_2000; translated = true })
-    ∷ reads (invalidated_by_lem 0x1800) 0x2000 is refusal 13
+    ∷ reads (invalidated_by_lem 0x0800) 0x1FFC is Err 13
+    ∷ reads (invalidated_by_lem 0x0800) 0x2000 is Ok (record { address = 0x4000_2000; translated = true })
+    ∷ reads (invalidated_by_lem 0x1800) 0x2000 is Err 13
     -- 2: 2 ^ 64 bytes; no size, which is 4 in a request
-    ∷ reading (invalidate 0x7FFF_FFFF 0xFFFF_F800) is ok (invalidation 0x7FFF_FFFF_FFFF_F000)
-    ∷ size_of 0x7FFF_FFFF_FFFF_F000 true is Exponent 64
-    ∷ translation_of 0x7FFF_FFFF_FFFF_F800 is translation_at_base 0 (Exponent 64)
-    ∷ reading (invalidate 0xFFFF_FFFF 0xFFFF_F800) is refusal 4
-    ∷ translation_of 0xFFFF_FFFF_FFFF_F800 is translation_at_base 0 NoSize
+    ∷ reading (invalidate 0x7FFF_FFFF 0xFFFF_F800) is Ok (invalidation 0x7FFF_FFFF_FFFF_F000)
+    ∷ size_of 0x7FFF_FFFF_FFFF_F000 true is Some 64
+    ∷ translation_of 0x7FFF_FFFF_FFFF_F800 is translation_at_base 0 (Some 64)
+    ∷ reading (invalidate 0xFFFF_FFFF 0xFFFF_F800) is Err 4
+    ∷ translation_of 0xFFFF_FFFF_FFFF_F800 is translation_at_base 0 None
     -- 3: 4096 bytes at 3000h, rounded up to a unit of 8192
     ∷ invalidated_range 1 (record { itag = record { 0 = 0 }; device = 0x0100; address = 0x3000; sized = false }) is record { first = 0x2000; last = 0x3FFF }
     -- 4: one unit of a large page is cached, and no other
-    ∷ reads after_fill 0x203000 is ok (record { address = 0x4000_3000; translated = true })
-    ∷ answer after_fill (Access (record { direction = ToRead; address = 0x204000; dwords = 1 })) [] is refusal 13
+    ∷ reads after_fill 0x203000 is Ok (record { address = 0x4000_3000; translated = true })
+    ∷ answer after_fill (Access (record { direction = ToRead; address = 0x204000; dwords = 1 })) [] is Err 13
     -- 5: the second of two units makes the request stale
     ∷ tag_state after_invalidate.tags (record { 0 = 0 }) is Translate (record { address = 0x0FFF_FFFF_C000; further = 1; stu = 2; stale = true; size = 0; whole = 0; due = 0 })
     -- 6: lines 1 and 2 of the listing
-    ∷ reading (four_bytes 0x0000_0402 ++ four_bytes 0x0100_05FF ++ four_bytes 0x0020_3000) is ok (record { head = record { tc = 0; attr = attr_zero; sender = 0x0100 }; body = Tr (record { tag = record { 0 = 5 }; dwords = 2; address = 0x203000; nowrite = false }) })
-    ∷ reading (four_bytes 0x3200_0000 ++ four_bytes 0x0100_0002 ++ four_bytes 0x0008_0001 ++ four_bytes 0x8000_0001) is ok (record { head = record { tc = 0; attr = attr_zero; sender = 0x0100 }; body = Ic (record { device = 0x0008; cc = 1; vector = 0x8000_0001 }) })
+    ∷ reading (four_bytes 0x0000_0402 ++ four_bytes 0x0100_05FF ++ four_bytes 0x0020_3000) is Ok (record { head = record { tc = 0; attr = attr_zero; sender = 0x0100 }; body = Tr (record { tag = record { 0 = 5 }; dwords = 2; address = 0x203000; nowrite = false }) })
+    ∷ reading (four_bytes 0x3200_0000 ++ four_bytes 0x0100_0002 ++ four_bytes 0x0008_0001 ++ four_bytes 0x8000_0001) is Ok (record { head = record { tc = 0; attr = attr_zero; sender = 0x0100 }; body = Ic (record { device = 0x0008; cc = 1; vector = 0x8000_0001 }) })
     ∷ line_text 1 line1 is shown1
     ∷ line_text 2 line2 is shown2
     -- 7: a page request, byte for byte, as the writer and as the Function sends it
     ∷ bytes_of (page_request attr_zero) [] is page_bytes 0x3000_0000
-    ∷ writing (page_request attr_zero) 0 16 is ok 16
-    ∷ outcome (function_after (started 0) ((PagesOn 1, []) ∷ [])) (Requests page) [] is (ok done, 16, page_bytes 0x3000_0000)
+    ∷ writing (page_request attr_zero) 0 16 is Ok 16
+    ∷ outcome (function_after (started 0) ((PagesOn 1, []) ∷ [])) (Requests page) [] is (Ok done, 16, page_bytes 0x3000_0000)
     -- 8: at the top of the address space one unit can be requested, and two cannot
-    ∷ outcome (started 0) (ask 0xFFFF_FFFF_FFFF_F000 1) [] is (ok (tag 0), 16, four_bytes 0x2000_0402 ++ four_bytes 0x0100_00FF ++ four_bytes 0xFFFF_FFFF ++ four_bytes 0xFFFF_F000)
-    ∷ outcome (started 0) (ask 0xFFFF_FFFF_FFFF_F000 2) [] is (refusal 12, 0, buffer)
+    ∷ outcome (started 0) (ask 0xFFFF_FFFF_FFFF_F000 1) [] is (Ok (tag 0), 16, four_bytes 0x2000_0402 ++ four_bytes 0x0100_00FF ++ four_bytes 0xFFFF_FFFF ++ four_bytes 0xFFFF_F000)
+    ∷ outcome (started 0) (ask 0xFFFF_FFFF_FFFF_F000 2) [] is (Err 12, 0, buffer)
     -- 02 a: the last page request of a group, with Relaxed Ordering clear and with it set
-    ∷ reading (page_bytes 0x3000_0000) is ok (page_request attr_zero)
-    ∷ reading (page_bytes 0x3000_2000) is ok (page_request relaxed_ordering)
+    ∷ reading (page_bytes 0x3000_0000) is Ok (page_request attr_zero)
+    ∷ reading (page_bytes 0x3000_2000) is Ok (page_request relaxed_ordering)
     -- and with each of the other two bits alone
-    ∷ reading (page_bytes 0x3004_0000) is ok (page_request (record { ido = true; relaxed = false; nosnoop = false }))
-    ∷ reading (page_bytes 0x3000_1000) is ok (page_request (record { ido = false; relaxed = false; nosnoop = true }))
+    ∷ reading (page_bytes 0x3004_0000) is Ok (page_request (record { ido = true; relaxed = false; nosnoop = false }))
+    ∷ reading (page_bytes 0x3000_1000) is Ok (page_request (record { ido = false; relaxed = false; nosnoop = true }))
     -- the unnamed bits of these bytes mean nothing, and are written as zero
-    ∷ reading (page_bytes 0x308B_2F00) is ok (page_request relaxed_ordering)
+    ∷ reading (page_bytes 0x308B_2F00) is Ok (page_request relaxed_ordering)
     ∷ bytes_of (page_request relaxed_ordering) [] is page_bytes 0x3000_2000
     -- 02 b: the reply with a page of 1 GiB after two entries; with No Write it has R alone
     ∷ host_does (request 0x4000_0000) tables is host_answers Successful 20 2 (host_reply 0 0x9FFF_F803)
@@ -231,7 +229,7 @@ examples =
     -- an address of 49 bits: the null translation, and no entry is read
     ∷ host_does (four_bytes 0x2000_0402 ++ four_bytes 0x0100_00FF ++ four_bytes 0x0001_0000 ++ four_bytes 0) [] is host_answers Successful 20 0 (host_reply 0 0)
     -- the Function that asked for two units takes the reply, and reads through both
-    ∷ reads (function_after (started 0) ((ask 0x1_4000_0000 2, []) ∷ (Receive, host_reply 0 0x9FFF_F803) ∷ [])) 0x1_4000_1004 is ok (record { address = 0x8000_1004; translated = true })
+    ∷ reads (function_after (started 0) ((ask 0x1_4000_0000 2, []) ∷ (Receive, host_reply 0 0x9FFF_F803) ∷ [])) 0x1_4000_1004 is Ok (record { address = 0x8000_1004; translated = true })
     ∷ []
 
 -- packets that differ in Attr, in all three bits, and in nothing else: those of which `AttrDecidesNothing` speaks

@@ -1,10 +1,7 @@
 -- A card that moves its entries to other slots does nothing wrong, and demand 3 does not refuse it.
+use Rattle.std.specs.Prelude.{None, Option, Some}
 use mathlib.Core.Path.{◌≡◌, refl}
-use mathlib.Core.Bool.{Bool, true, false, cond}
 use Prim.Native.Nat.{ℕ, zero, suc}
-use Rattle.state.specs.declared.Function.{Function}
-use Rattle.state.specs.declared.Agent.{Agent}
-use Rattle.state.specs.declared.Agent.TheVariants.{Unknown, Known}
 use Rattle.demand3.specs.Runs.{Machine}
 use Rattle.demand3.specs.Order.{Order}
 use Rattle.demand3.proofs.Theorem.{order}
@@ -19,15 +16,15 @@ swapped (suc zero) = 0
 swapped (suc (suc j)) = suc (suc j)
 
 -- once an agent is known
-abbrev turn : Agent → ℕ → ℕ
-turn Unknown j = j
-turn (Known id) j = swapped j
+abbrev turn : Option ℕ → ℕ → ℕ
+turn None j = j
+turn (Some id) j = swapped j
 
-pub turn_twice : (g : Agent) (j : ℕ) → turn g (turn g j) ≡ j
-turn_twice Unknown j = refl
-turn_twice (Known id) zero = refl
-turn_twice (Known id) (suc zero) = refl
-turn_twice (Known id) (suc (suc j)) = refl
+pub turn_twice : (g : Option ℕ) (j : ℕ) → turn g (turn g j) ≡ j
+turn_twice None j = refl
+turn_twice (Some id) zero = refl
+turn_twice (Some id) (suc zero) = refl
+turn_twice (Some id) (suc (suc j)) = refl
 
 abbrev pub compactor : Machine observer
 compactor = renumbered card (λ f. turn f.agent) (λ f. turn_twice f.agent)

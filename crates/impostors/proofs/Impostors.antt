@@ -1,10 +1,11 @@
 -- Wrong cards, each of which violates demand 3, on a run that the checker computes. Each differs from the card only as
 -- its comment says, as far as that run goes.
+use Rattle.std.specs.Prelude.{Err, None, Ok, Result, Some, Option}
+use Rattle.std.specs.Option.{option_map}
 use mathlib.Core.Path.{◌≡◌, refl, sym, ap, ◌∙◌}
 use mathlib.Core.Logic.{⊎_elim}
 use mathlib.Core.Bool.{Bool, true, false, cond, ◌&&◌, ◌||◌}
 use mathlib.Core.List.{List, [], ◌∷◌, map}
-use mathlib.Core.Option.{Option, none, some}
 use Prim.Native.Nat.{ℕ, ◌+◌, ◌-◌}
 use native.Mathlib.Omega.{arith}
 use lib.Dec.{eqb, leb, ltb, lit<}
@@ -16,20 +17,16 @@ use Rattle.packet.specs.declared.Outcome.TheVariants.{Data, Status}
 use Rattle.packet.specs.declared.Body.{Body}
 use Rattle.packet.specs.declared.Body.TheVariants.{Tr, Mem, Cpl, Inv, Ic, Prq, Prs}
 use Rattle.packet.specs.declared.Packet.{Packet}
-use Rattle.packet.specs.Numbers.{Result, ok, refusal}
 use Rattle.packet.specs.Reading.{reading}
 use Rattle.packet.specs.Writing.{bytes_of}
 use Rattle.atc.specs.Cache.{filled_with, blank}
 use Rattle.tags.specs.Tags.{tag_state}
 use Rattle.atc.specs.declared.Entry.{Entry}
-use Rattle.atc.specs.Cache.{entry_at, no_entry, emptied}
+use Rattle.atc.specs.Cache.{entry_at, emptied}
 use Rattle.tags.specs.declared.TagState.{TagState}
 use Rattle.tags.specs.declared.TagState.TheVariants.{Free, Translate, Read as Reading}
 use Rattle.tags.specs.declared.PendingRead.{PendingRead}
-use Rattle.tags.specs.declared.TagRow.{TagRow}
-use Rattle.tags.specs.Tags.{tag_row}
 use Rattle.state.specs.declared.Function.{Function}
-use Rattle.state.specs.declared.Agent.TheVariants.{Unknown, Known}
 use Rattle.state.specs.State.{head_of, fresh, rcb_of, with_agent, with_waiting, with_cache, with_tags, with_tag}
 use Rattle.state.specs.Answers.{Observed, done, carries, payload_last}
 use Rattle.call_access.specs.Access.{memory_request_packet}
@@ -45,10 +42,10 @@ use Rattle.demand3.specs.Order.{Completed, Order}
 use Rattle.demand3.proofs.Consequence.{brought_in, brought_in_lem}
 use Rattle.demands.specs.Observed.{Call, Cached, Wanted, terms, role_of, is_refused, is_reset, address_for, call_taken, observer, held_in}
 use Rattle.impostors.proofs.Runs.{simply, enable, drain, ask, read, granted, granted_late, first_part, both_parts, nothing_said, elsewhere, too_many, request, relaxed_request, another, anothers, garbled, reset, three, four_of_another, page}
-use Rattle.lemmas.proofs.Cases.{by_cases, impossible}
+use Rattle.lemmas.proofs.Cases.{impossible}
 use Rattle.atc.proofs.Laws.{laws}
 use Rattle.demands.proofs.Views.{no_entry_lem}
-use Rattle.demands.proofs.Invalidates.{held_entry}
+use Rattle.demands.proofs.Invalidates.{held_entry, held_used}
 use Rattle.card.proofs.Computed.{computed}
 
 -- the card with another step, which shows other entries
@@ -72,10 +69,10 @@ honest f c = step f c.command c.bytes c.out
 
 -- a choice by what a call delivers: a completion, an Invalidate Request, a drain, none of these
 abbrev by : {X : Type 0} → Option (Taken terms) → X → X → X → X → X
-by none x y z o = o
-by (some (CPL t n d)) x y z o = x
-by (some (INV i a)) x y z o = y
-by (some (DRAIN n)) x y z o = z
+by None x y z o = o
+by (Some (CPL t n d)) x y z o = x
+by (Some (INV i a)) x y z o = y
+by (Some (DRAIN n)) x y z o = z
 
 abbrev delivered : Call → Option (Taken terms)
 delivered c = call_taken (record { id = 0; stu = 0 }) c.command c.bytes
@@ -100,7 +97,7 @@ tardy f c =
 
 -- an Invalidate Request changes the tags in a wrong way
 abbrev marking : (TagState → TagState) → Function → Call → Observed
-marking mark f c = let r = honest f c in by (delivered c) r (with_state r (with_tags r.state (map (λ (p : TagRow). tag_row (mark p.state)) r.state.tags))) r r
+marking mark f c = let r = honest f c in by (delivered c) r (with_state r (with_tags r.state (map mark r.state.tags))) r r
 
 -- it leaves Translation Requests live
 abbrev revived : TagState → TagState
@@ -126,15 +123,15 @@ abbrev left_in : (PendingRead → ℕ → TagState) → Function → Observed �
 left_in left f r t n Free = r
 left_in left f r t n (Translate q) = r
 left_in left f r t n (Reading x) =
-    record { state = with_tag f t (left x n); answer = ok payload_last; sent = 0; buffer = r.buffer }
+    record { state = with_tag f t (left x n); answer = Ok payload_last; sent = 0; buffer = r.buffer }
 
 abbrev counting_on : (PendingRead → ℕ → TagState) → Function → Observed → Option (Taken terms) → Observed
-counting_on left f r none = r
-counting_on left f r (some (CPL t n none)) = r
-counting_on left f r (some (CPL t n (some d))) =
+counting_on left f r None = r
+counting_on left f r (Some (CPL t n None)) = r
+counting_on left f r (Some (CPL t n (Some d))) =
     left_in left f r (record { 0 = t }) (length d.load) (tag_state f.tags (record { 0 = t }))
-counting_on left f r (some (INV i a)) = r
-counting_on left f r (some (DRAIN n)) = r
+counting_on left f r (Some (INV i a)) = r
+counting_on left f r (Some (DRAIN n)) = r
 
 abbrev counting : (PendingRead → ℕ → TagState) → Function → Call → Observed
 counting left f c = counting_on left f (honest f c) (delivered c)
@@ -149,12 +146,12 @@ repeater = counting (λ x n. cond (leb x.due n) Free (Reading (record { address 
 
 -- it accepts an Invalidate Request, does nothing, and sends a completion for no ITag
 abbrev hider : Function → Call → Observed
-hider f c = let r = honest f c in by (delivered c) r (record { state = f; answer = ok (carries 0); sent = 16; buffer = bytes_of (invalidate_completion_packet 0 (Known 0x0200) 0) [] }) r r
+hider f c = let r = honest f c in by (delivered c) r (record { state = f; answer = Ok (carries 0); sent = 16; buffer = bytes_of (invalidate_completion_packet 0 (Some 0x0200) 0) [] }) r r
 
 -- a drain never sends anything
 abbrev mute : Function → Call → Observed
 mute f c =
-    let r = honest f c in by (delivered c) r r (record { state = f; answer = ok (carries 0); sent = 0; buffer = c.out }) r
+    let r = honest f c in by (delivered c) r r (record { state = f; answer = Ok (carries 0); sent = 0; buffer = c.out }) r
 
 -- it reports a packet's length and writes nothing
 abbrev unwritten : Function → Call → Observed
@@ -170,7 +167,7 @@ half f c = let r = honest f c in by (delivered c) r r (with_buffer r (set r.buff
 
 -- its completions go to another device
 abbrev astray : Function → Call → Observed
-astray f c = let r = honest f c in by (delivered c) r r (with_buffer r (bytes_of (invalidate_completion_packet f.id (Known 8) (ready_of f)) [])) r
+astray f c = let r = honest f c in by (delivered c) r r (with_buffer r (bytes_of (invalidate_completion_packet f.id (Some 8) (ready_of f)) [])) r
 
 -- every request is sent with tag 0
 abbrev again : Function → Call → Observed
@@ -180,28 +177,28 @@ again f c = let r = honest f c in by (delivered c) r r r (with_buffer r (set r.b
 abbrev curious : Function → Call → Observed
 curious f c =
     let r = honest f c in
-    by (delivered c) r r r (record { state = r.state; answer = ok done; sent = 12; buffer = bytes_of (memory_request_packet 0 (Fetches (record { 0 = 0 })) 1 (record { address = 0x7000; translated = true })) [] })
+    by (delivered c) r r r (record { state = r.state; answer = Ok done; sent = 12; buffer = bytes_of (memory_request_packet 0 (Fetches (record { 0 = 0 })) 1 (record { address = 0x7000; translated = true })) [] })
 
 -- it takes a completion without data, and status 000, for the end of a read
 abbrev empty_in : Body → Option ℕ
 empty_in (Cpl c) = ended c.outcome
   where
     ended : Outcome → Option ℕ
-    ended (Data dwords) = none
-    ended (Status status) = cond (eqb status 0) (some c.tag.0) none
-empty_in (Tr t) = none
-empty_in (Mem m) = none
-empty_in (Inv i) = none
-empty_in (Ic i) = none
-empty_in (Prq q) = none
-empty_in (Prs s) = none
+    ended (Data dwords) = None
+    ended (Status status) = cond (eqb status 0) (Some c.tag.0) None
+empty_in (Tr t) = None
+empty_in (Mem m) = None
+empty_in (Inv i) = None
+empty_in (Ic i) = None
+empty_in (Prq q) = None
+empty_in (Prs s) = None
 
-abbrev empty_for : Result Packet → Option ℕ
-empty_for (refusal n) = none
-empty_for (ok p) = empty_in p.body
+abbrev empty_for : Result Packet ℕ → Option ℕ
+empty_for (Err n) = None
+empty_for (Ok p) = empty_in p.body
 
 abbrev gullible : Function → Call → Observed
-gullible f c = given (empty_for (reading c.bytes)) (λ t. record { state = with_tag f (record { 0 = t }) Free; answer = ok done; sent = 0; buffer = c.out }) (honest f c)
+gullible f c = given (empty_for (reading c.bytes)) (λ t. record { state = with_tag f (record { 0 = t }) Free; answer = Ok done; sent = 0; buffer = c.out }) (honest f c)
 
 -- it takes completions for other Functions as its own
 abbrev renamed : Function → ℕ → Function
@@ -219,28 +216,28 @@ renamed f id =
     }
 
 abbrev requester_in : Body → Option ℕ
-requester_in (Cpl c) = some c.requester
-requester_in (Tr t) = none
-requester_in (Mem m) = none
-requester_in (Inv i) = none
-requester_in (Ic i) = none
-requester_in (Prq q) = none
-requester_in (Prs s) = none
+requester_in (Cpl c) = Some c.requester
+requester_in (Tr t) = None
+requester_in (Mem m) = None
+requester_in (Inv i) = None
+requester_in (Ic i) = None
+requester_in (Prq q) = None
+requester_in (Prs s) = None
 
-abbrev requester : Result Packet → Option ℕ
-requester (refusal n) = none
-requester (ok p) = requester_in p.body
+abbrev requester : Result Packet ℕ → Option ℕ
+requester (Err n) = None
+requester (Ok p) = requester_in p.body
 
 abbrev anyones : Function → Call → Observed
 anyones f c = given (requester (reading c.bytes)) (λ id. let r = honest (renamed f id) c in with_state r (renamed r.state f.id)) (honest f c)
 
 -- it takes Invalidate Requests from anyone
 abbrev obliging : Function → Call → Observed
-obliging f c = by (delivered c) (honest f c) (honest (with_agent f Unknown) c) (honest f c) (honest f c)
+obliging f c = by (delivered c) (honest f c) (honest (with_agent f None) c) (honest f c) (honest f c)
 
 -- it takes them even with an ITag that waits
 abbrev twofold : Function → Call → Observed
-twofold f c = by (delivered c) (honest f c) (honest (with_waiting (with_agent f Unknown) 0) c) (honest f c) (honest f c)
+twofold f c = by (delivered c) (honest f c) (honest (with_waiting (with_agent f None) 0) c) (honest f c) (honest f c)
 
 -- one additional read: translated, to 10 0000h, with tag 0, for any call
 abbrev parting : Observed → Observed
@@ -264,7 +261,7 @@ mumbler f c = let r = honest f c in by (delivered c) r r r (with_buffer r (set r
 
 -- it keeps what it should delete, and shows an empty cache
 abbrev shadow_card : Machine observer
-shadow_card = card_showing (λ f j. none) keeper
+shadow_card = card_showing (λ f j. None) keeper
 
 -- it ends a read when at least the bytes that are due have come
 abbrev overfed : Function → Call → Observed
@@ -276,7 +273,7 @@ launderer f c = given (address_for Read c.command) (λ a. let r = honest f c in 
 
 -- it sends a read across the end of the unit
 abbrev straddler : Function → Call → Observed
-straddler f c = given (address_for Read c.command) (λ a. record { state = f; answer = ok done; sent = 12; buffer = bytes_of (memory_request_packet 0 (Fetches (record { 0 = 0 })) 2 (record { address = 0x10_0FFC; translated = true })) [] }) (honest f c)
+straddler f c = given (address_for Read c.command) (λ a. record { state = f; answer = Ok done; sent = 12; buffer = bytes_of (memory_request_packet 0 (Fetches (record { 0 = 0 })) 2 (record { address = 0x10_0FFC; translated = true })) [] }) (honest f c)
 
 -- it writes packets into the buffer, and reports length 0
 abbrev whisperer : Function → Call → Observed
@@ -284,7 +281,7 @@ whisperer f c = let r = honest f c in record { state = r.state; answer = r.answe
 
 -- it accepts what does not read as a packet
 abbrev nodder : Function → Call → Observed
-nodder f c = let r = honest f c in cond (is_refused r.answer) (record { state = f; answer = ok done; sent = 0; buffer = c.out }) r
+nodder f c = let r = honest f c in cond (is_refused r.answer) (record { state = f; answer = Ok done; sent = 0; buffer = c.out }) r
 
 -- its reset keeps the cache
 abbrev survivor : Function → Call → Observed
@@ -296,7 +293,7 @@ rememberer f c = let r = honest f c in cond (is_reset c.command) (with_state r (
 
 -- it makes up an entry when it is enabled
 abbrev made_up : Entry
-made_up = record { used = true; r = true; w = true; n = false; u = false; unit = 0x5000; to = 0x10_0000 }
+made_up = record { r = true; w = true; n = false; u = false; unit = 0x5000; to = 0x10_0000 }
 
 abbrev inventor : Function → Call → Observed
 inventor f c =
@@ -304,19 +301,15 @@ inventor f c =
 
 -- it drains with a completion for no ITag
 abbrev hollow : Function → Call → Observed
-hollow f c = let r = honest f c in by (delivered c) r r (with_buffer (record { state = f; answer = ok (carries 0); sent = 16; buffer = r.buffer }) (bytes_of (invalidate_completion_packet 0 (Known 0x0200) 0) [])) r
+hollow f c = let r = honest f c in by (delivered c) r r (with_buffer (record { state = f; answer = Ok (carries 0); sent = 16; buffer = r.buffer }) (bytes_of (invalidate_completion_packet 0 (Some 0x0200) 0) [])) r
 
 -- it sends a PRG Response
 abbrev foreign : Function → Call → Observed
-foreign f c = let r = honest f c in by (delivered c) r r r (record { state = r.state; answer = ok done; sent = 16; buffer = bytes_of (record { head = head_of 0; body = Prs (record { index = record { 0 = 0 }; device = 0; code = 0 }) }) [] })
+foreign f c = let r = honest f c in by (delivered c) r r r (record { state = r.state; answer = Ok done; sent = 16; buffer = bytes_of (record { head = head_of 0; body = Prs (record { index = record { 0 = 0 }; device = 0; code = 0 }) }) [] })
 
 -- it shows old entries as free slots, and goes on using them
-abbrev buried : Entry → Entry
-buried e = record { used = false; r = e.r; w = e.w; n = e.n; u = e.u; unit = e.unit; to = e.to }
-
 abbrev tombs : Function → ℕ → Option Cached
-tombs f j =
-    cond (entry_at f.cache j).used (some (record { stu = f.stu; entry = buried (entry_at f.cache j) })) none
+tombs f j = option_map (λ e. record { used = false; stu = f.stu; entry = e }) (entry_at f.cache j)
 
 abbrev tombs_card : Machine observer
 tombs_card = card_showing tombs keeper
@@ -325,14 +318,14 @@ tombs_card = card_showing tombs keeper
 
 pub record Odd : Type 0 where
   pub inner : Function
-  pub drawer : Entry
+  pub drawer : Option Entry
   pub flag : Bool
 
 abbrev odd_by : (Odd → Call → Odd) → (Odd → Call → List ℕ) → Machine observer
 odd_by moves writes =
     record {
       State = Odd;
-      new = record { inner = fresh 0 0 (rcb_of 64); drawer = no_entry; flag = false };
+      new = record { inner = fresh 0 0 (rcb_of 64); drawer = None; flag = false };
       state = moves;
       answer = λ x c. let r = honest x.inner c in record { answer = r.answer; sent = r.sent };
       buffer = writes;
@@ -340,8 +333,9 @@ odd_by moves writes =
     }
 
 -- it keeps an old entry outside the cache, and puts it back when a completion comes
-abbrev put_back : Function → Entry → Function
-put_back f e = with_cache f (filled_with e f.cache)
+abbrev put_back : Function → Option Entry → Function
+put_back f None = f
+put_back f (Some e) = with_cache f (filled_with e f.cache)
 
 abbrev drawer_moves : Odd → Call → Odd
 drawer_moves x c =
@@ -354,18 +348,18 @@ drawer_card = odd_by drawer_moves (λ x c. (honest x.inner c).buffer)
 
 -- it drains correctly once, and then only answers that it did
 abbrev idle_moves : Odd → Call → Odd
-idle_moves x c = record { inner = (honest x.inner c).state; drawer = no_entry; flag = x.flag || by (delivered c) false false true false }
+idle_moves x c = record { inner = (honest x.inner c).state; drawer = None; flag = x.flag || by (delivered c) false false true false }
 
 abbrev idle_card : Machine observer
 idle_card = odd_by idle_moves (λ x c. cond x.flag c.out (honest x.inner c).buffer)
 
 -- once it has received a packet with Relaxed Ordering, whatever it sends has Relaxed Ordering
-abbrev is_relaxed : Result Packet → Bool
-is_relaxed (ok p) = p.head.attr.relaxed
-is_relaxed (refusal n) = false
+abbrev is_relaxed : Result Packet ℕ → Bool
+is_relaxed (Ok p) = p.head.attr.relaxed
+is_relaxed (Err n) = false
 
 abbrev echo_moves : Odd → Call → Odd
-echo_moves x c = record { inner = (honest x.inner c).state; drawer = no_entry; flag = x.flag || ((role_of c.command).receives && is_relaxed (reading c.bytes)) }
+echo_moves x c = record { inner = (honest x.inner c).state; drawer = None; flag = x.flag || ((role_of c.command).receives && is_relaxed (reading c.bytes)) }
 
 abbrev echo_card : Machine observer
 echo_card = odd_by echo_moves (λ x c. let r = honest x.inner c in cond (x.flag && ltb 0 r.sent) (set r.buffer 2 (get_or r.buffer 2 0 + 0x20)) r.buffer)
@@ -393,7 +387,7 @@ module _ (M : Machine observer) where
   to before c since u v = record { before = before; call = c; since = since; unbroken = u; goes_on = v }
 
   -- one of the calls since the request delivered an overlapping entry
-  shown : Order M → (r : Run M new) → Completed M r three page → (j : ℕ) (e : Cached) → M.held (end M r).fn j ≡ some e
+  shown : Order M → (r : Run M new) → Completed M r three page → (j : ℕ) (e : Cached) → M.held (end M r).fn j ≡ Some e
       → terms.entry_in page e ≡ true
       → brought_in M e (arrival M r) r.since ≡ true
   shown d r z j e p o = brought_in_lem M e (arrival M r) r.since (d.new.letter.entries r three page z e (j, p) o)
@@ -402,24 +396,29 @@ module _ (M : Machine observer) where
 no_tomb : (f : Function) (b : Wanted) (k : ℕ) → Served tombs_card f b k → ⊥
 no_tomb f b k s = go b.address refl
   where
-    is_free : s.entry.entry.used ≡ false
-    is_free = by_cases (entry_at f.cache s.held.0).used (λ u. shows (rw u at s.held.1)) (λ u. no_some (rw u at s.held.1))
-      where
-        shows : ◌≡◌ {A = Option Cached} (some (record { stu = f.stu; entry = buried (entry_at f.cache s.held.0) })) (some s.entry)
-            → s.entry.entry.used ≡ false
-        shows e = let same : record { stu = f.stu; entry = buried (entry_at f.cache s.held.0) } ≡ s.entry = cc in rw (← same) refl
+    shows : (slot : Option Entry) (e : Cached)
+        → option_map (λ x. record { used = false; stu = f.stu; entry = x }) slot ≡ Some e → e.used ≡ false
+    shows None e h = no_some h
+    shows (Some x) e h =
+        let same : record { used = false; stu = f.stu; entry = x } ≡ e = cc in sym (ap (λ (y : Cached). y.used) same)
+
+    is_free : s.entry.used ≡ false
+    is_free = shows (entry_at f.cache s.held.0) s.entry s.held.1
 
     go : (x : Option ℕ) → b.address ≡ x → ⊥
-    go none n = no_tf (sym (rw n at s.serves))
-    go (some x) n = no_tf (sym (rw (n, is_free) at s.serves))
+    go None n = no_tf (sym (rw n at s.serves))
+    go (Some x) n = no_tf (sym (rw (n, is_free) at s.serves))
 
 -- where one entry is cached, what is held is that entry
-only_one : (f : Function) (e : Entry) → f.cache ≡ filled_with e blank → (j : ℕ) (y : Cached) → held_in f j ≡ some y
-    → y ≡ record { stu = f.stu; entry = e }
+only_one : (f : Function) (e : Entry) → f.cache ≡ filled_with e blank → (j : ℕ) (y : Cached) → held_in f j ≡ Some y
+    → y ≡ record { used = true; stu = f.stu; entry = e }
 only_one f e is j y h =
     ⊎_elim
     (λ a. no_some (sym (no_entry_lem f.stu (entry_at f.cache j) (rw is (a ∙ laws.new_entry j))) ∙ h))
-    (λ a. sym (held_entry f.stu (entry_at f.cache j) y h).1 ∙ rw is (ap (λ (x : Entry). record { stu = f.stu; entry = x }) a))
+    (λ a. let held = held_entry f.stu (entry_at f.cache j) y h in
+    let same : Some e ≡ Some y.entry = sym (rw is a) ∙ held.0 in
+    let is_e : e ≡ y.entry = cc in
+    sym (rw (held.1, is_e) (ap (λ (u : Bool). record { used = u; stu = y.stu; entry = y.entry }) (held_used f.stu (entry_at f.cache j) y h))))
     (laws.fill_entry e blank laws.new_sound j)
 
 -- none of them satisfies demand 3
@@ -504,5 +503,5 @@ refused =
       nodder = λ d. let M = card_by nodder in no_tf (sym (d.new.beyond.taken (to M [] garbled [] (refl, tt) tt) refl));
       survivor = λ d. let M = card_by survivor in (d.reset (state_after M (new M) cached) reset refl).empty _ (0, refl);
       rememberer = λ d. let M = card_by rememberer in no_tf (sym (((d.reset (state_after M (new M) (request ∷ [])) reset refl).letter.nine (record { before = []; call = request; since = []; unbroken = (refl, tt); goes_on = tt }) three page refl).0 refl));
-      inventor = λ d. let M = card_by inventor in ⊎_elim (λ h. d.new.empty _ h) (λ z. ⊎_elim (λ e. no_tf (sym e)) (λ e. e.1) z) (d.new.beyond.origin (to M [] enable [] (refl, tt) tt) (record { stu = 0; entry = made_up }) (0, refl));
+      inventor = λ d. let M = card_by inventor in ⊎_elim (λ h. d.new.empty _ h) (λ z. ⊎_elim (λ e. no_tf (sym e)) (λ e. e.1) z) (d.new.beyond.origin (to M [] enable [] (refl, tt) tt) (record { used = true; stu = 0; entry = made_up }) (0, refl));
     }

@@ -1,13 +1,12 @@
 -- Two runs of the card that the checker computes, in which every case of demand 3 occurs.
+use Rattle.std.specs.Prelude.{Err, Ok, None, Some}
 use mathlib.Core.Path.{◌≡◌, refl}
 use mathlib.Core.Bool.{true, false}
 use mathlib.Core.List.{List, [], ◌∷◌, ◌++◌}
-use mathlib.Core.Option.{none, some}
 use Prim.Native.Nat.{ℕ}
 use lib.Dec.{lit<}
 use lib.ListN.{replicate}
 use Rattle.packet.specs.Frames.{four_bytes}
-use Rattle.packet.specs.Numbers.{ok, refusal}
 use Rattle.ranges.specs.declared.Range.{Range}
 use Rattle.tlp.specs.Bytes.{are_bytes}
 use Rattle.state.specs.State.{fresh, rcb_of}
@@ -141,7 +140,7 @@ then = state_after card begin (request ∷ warm)
 
 -- the page at 20 0000h
 abbrev pub fresher : Cached
-fresher = record { stu = 0; entry = record { used = true; r = true; w = true; n = false; u = false; unit = 0x5000; to = 0x20_0000 } }
+fresher = record { used = true; stu = 0; entry = record { r = true; w = true; n = false; u = false; unit = 0x5000; to = 0x20_0000 } }
 
 -- ---- units of 8192 bytes
 
@@ -172,23 +171,23 @@ whole = record { before = warm; call = request; since = anew; unbroken = unbroke
 -- read in its lower half delays the completion until it ends.
 pub record Happens : Type 0 where
   pub opens : read_in page (open_at 0 (history card begin warm))
-      ≡ some (fetch true (record { address = some 0x5000; bytes = 8 }) 8)
-  pub arrives : accepts three (seen card (state_after card begin warm) request).took ≡ some page
+      ≡ Some (fetch true (record { address = Some 0x5000; bytes = 8 }) 8)
+  pub arrives : accepts three (seen card (state_after card begin warm) request).took ≡ Some page
   pub holds : (completions three (history card then held) ≡ 0)
       × (waits 32 three (history card begin (held ++ request ∷ warm)) ≡ true)
-  pub refuses : (card.answer (state_after card begin (held ++ request ∷ warm)).fn request).answer ≡ refusal 9
-  pub free : (card.answer (state_after card begin (late ++ request ∷ warm)).fn request).answer ≡ ok done
+  pub refuses : (card.answer (state_after card begin (held ++ request ∷ warm)).fn request).answer ≡ Err 9
+  pub free : (card.answer (state_after card begin (late ++ request ∷ warm)).fn request).answer ≡ Ok done
   pub completes : (completions three (history card then late) ≡ 1)
       × (waits 32 three (history card begin (late ++ request ∷ warm)) ≡ false)
-  pub drops : held_in then.fn 0 ≡ none
-  pub ignores : held_in (state_after card then late).fn 0 ≡ none
-  pub fills : held_in (state_after card then anew).fn 0 ≡ some fresher
+  pub drops : held_in then.fn 0 ≡ None
+  pub ignores : held_in (state_after card then late).fn 0 ≡ None
+  pub fills : held_in (state_after card then anew).fn 0 ≡ Some fresher
   pub came : brought_in card fresher then anew ≡ true
-  pub closed : remains 0 (history card then late) (read_in page (open_at 0 (history card begin warm))) ≡ none
-  pub cached : held_in (state_after card large warm_large).fn 0 ≡ some (record { stu = 1; entry = record { used = true; r = true; w = true; n = false; u = false; unit = 0x4000; to = 0x10_0000 } })
+  pub closed : remains 0 (history card then late) (read_in page (open_at 0 (history card begin warm))) ≡ None
+  pub cached : held_in (state_after card large warm_large).fn 0 ≡ Some (record { used = true; stu = 1; entry = record { r = true; w = true; n = false; u = false; unit = 0x4000; to = 0x10_0000 } })
   pub rounds : accepts three (seen card (state_after card large warm_large) request).took
-      ≡ some (record { first = 0x4000; last = 0x5FFF })
-  pub drops_large : held_in (state_after card large (request ∷ warm_large)).fn 0 ≡ none
+      ≡ Some (record { first = 0x4000; last = 0x5FFF })
+  pub drops_large : held_in (state_after card large (request ∷ warm_large)).fn 0 ≡ None
   pub holds_large : completions three (history card large (drain ∷ request ∷ warm_large)) ≡ 0
   -- so that the premises of demand 3 can hold
   pub speaks : Completed card whole three page

@@ -1,13 +1,14 @@
 -- Booleans and options: contradictions and equality tests.
+use Rattle.std.specs.Prelude.{None, Some}
 use mathlib.Core.Path.{◌≡◌, refl, sym}
 use mathlib.Core.Bool.{Bool, true, false, cond, ◌||◌, beq, true≢false}
-use mathlib.Core.Option.{none, some, none-ne-some}
+use Rattle.std.proofs.lemmas.Option.{none-some}
 
 pub no_tf : {X : Type 0} → true ≡ false → X
 no_tf e = absurd (true≢false e)
 
-pub no_some : {B X : Type 0} {b : B} → none ≡ some b → X
-no_some {b = b} e = absurd (none-ne-some b e)
+pub no_some : {B X : Type 0} {b : B} → None ≡ Some b → X
+no_some {b = b} e = absurd (none-some b e)
 
 pub neither : (a b : Bool) → (a || b) ≡ false → (a ≡ false) × (b ≡ false)
 neither true b e = no_tf e

@@ -2,7 +2,6 @@ pub mod Cases
 pub mod Powers
 pub mod First
 pub mod Maps
-pub mod Fold
 pub mod Iterate
 pub mod All
 pub mod Tests

@@ -2,7 +2,7 @@
 use mathlib.Core.Path.{◌≡◌, refl, ap}
 use mathlib.Core.List.{List, [], ◌∷◌, ◌++◌, map}
 use mathlib.Core.Logic.{◌⊎◌, inl, inr, ⊎_elim}
-use Prim.Native.Nat.{ℕ, zero, suc, ◌+◌, ◌<◌, ◌≤◌}
+use Prim.Native.Nat.{ℕ, zero, suc, ◌+◌, ◌<◌}
 use native.Mathlib.Nat.{not-suc-le-zero, le_of_suc-le-suc}
 use native.Mathlib.Numerals.{add-one}
 use lib.ListN.{length, set, take, drop, get_or}
@@ -39,17 +39,6 @@ module _ {A : Type 0} (f : A → A) where
   map_keep {next} i d l h inv e =
       let here : get_or l i d ≡ f (get_or l i d) = rw (inv, map_read i d l) at e in
       rw (inv, add-one) (same_suc i d l h here)
-
-  pub map_long : (i : ℕ) (l : List A) → length (map_to f i l) ≡ length l
-  map_long zero l = refl
-  map_long (suc i) [] = refl
-  map_long (suc i) (x ∷ l) = ap suc (map_long i l)
-
-  pub map_end : (i : ℕ) (l : List A) → length l ≤ i → map_to f i l ≡ map f l
-  map_end zero [] h = refl
-  map_end zero (x ∷ l) h = absurd (not-suc-le-zero h)
-  map_end (suc i) [] h = refl
-  map_end (suc i) (x ∷ l) h = ap (λ (t : List A). f x ∷ t) (map_end i l (le_of_suc-le-suc h))
 
 -- after one store every element is unchanged or is the stored one
 pub set_or : {A : Type 0} (l : List A) (k i : ℕ) (y d : A)

@@ -1,4 +1,2 @@
-pub mod First
-pub mod Fold
 pub mod Iterate
 pub mod All

@@ -8,6 +8,7 @@ use lib.Dec.{ltb, eqb}
 use lib.ListN.{length, take}
 use lib.Seq.{take_all, take-take, length-take-le}
 use borrow.Author.Tests.{lt-ltb, ltb-true, ltb-false}
+use Rattle.rows.specs.Rows.{out_line}
 use Rattle.lister.specs.Line.{line_read, line_text}
 use Rattle.lister.specs.Stream.{printed, number_after, start_after, last_text, listing, first289, concat}
 
@@ -60,9 +61,12 @@ line_cut : (t : Bool) (cs : List ℕ) → ltb 288 (length cs) ≡ t → line_rea
 line_cut true cs e = over cs (ltb-true 288 (length cs) e)
 line_cut false cs e = let h = ltb-false 288 (length cs) e in ap line_read (sym (take_all 289 cs (omega arith)))
 
+pub read_cut : (cs : List ℕ) → line_read cs ≡ line_read (first289 cs)
+read_cut cs = line_cut (ltb 288 (length cs)) cs refl
+
 pub line_text_cut : (k : ℕ) (cs : List ℕ) → line_text k cs ≡ line_text k (first289 cs)
 unfolding line_text
-line_text_cut k cs = rw (line_cut (ltb 288 (length cs)) cs refl)
+line_text_cut k cs = ap (out_line k) (read_cut cs)
 
 line_text_same : (k : ℕ) (p q : List ℕ) → first289 p ≡ first289 q → line_text k p ≡ line_text k q
 line_text_same k p q e = line_text_cut k p ∙ ap (line_text k) e ∙ sym (line_text_cut k q)

@@ -1,15 +1,20 @@
 -- Characters without a line feed, and with one after them.
+use Rattle.std.specs.Prelude.{Option, Some, None, position}
+use Rattle.std.specs.List.{position_from}
+use Rattle.std.proofs.lemmas.Bool.{and_parts}
+use Rattle.std.proofs.lemmas.List.{get_or-drop}
+use Rattle.std.proofs.lemmas.List.Quantifiers.{position-Some}
+use Rattle.std.proofs.lemmas.Iterator.Adapters.{position_from-zero}
 use mathlib.Core.Path.{◌≡◌, refl, sym, ap, ◌∙◌}
-use mathlib.Core.Bool.{Bool, true, false, not, ◌&&◌, true≢false}
+use mathlib.Core.Bool.{Bool, true, false, cond, not, ◌&&◌, true≢false, and_assoc}
 use mathlib.Core.List.{List, [], ◌∷◌, ◌++◌, append-nil}
-use Prim.Native.Nat.{ℕ, ◌+◌, ◌-◌, ◌≤◌, ◌<◌}
-use native.Mathlib.Nat.{le_refl}
+use Prim.Native.Nat.{ℕ, zero, suc, ◌+◌, ◌≤◌, ◌<◌}
 use native.Mathlib.Numerals.{add-one}
 use native.Mathlib.Omega.{arith}
 use lib.Dec.{eqb, leb}
 use lib.ListN.{length, take, drop, get_or, length-drop, take-append-drop, drop_of_length-le}
-use lib.Seq.{take-suc, take-add, append_snoc, split_at, take_all, length-take-le, get_or-take}
-use borrow.Author.Tests.{ne_eqb, eqb-true, not-true, leb-true, leb-false}
+use lib.Seq.{take-suc, take-add, append_snoc, split_at, length-take-le, get_or-take}
+use borrow.Author.Tests.{eqb-true, not-true, leb-true, leb-false}
 use Rattle.text.specs.Digits.{is_hex, all_hex}
 use Rattle.text.proofs.Pairs.{hex_cons, digit_at}
 use Rattle.lister.specs.Line.{line_text}
@@ -17,29 +22,16 @@ use Rattle.lister.specs.Stream.{printed, number_after, start_after}
 use Rattle.lister.proofs.Cuts.{printed_append, number_after_append, start_after_append}
 use Rattle.lister.specs.Pieces.{no_feed, LineEnd}
 
-and_assoc : (a b c : Bool) → (a && b && c) ≡ (a && (b && c))
-and_assoc true b c = refl
-and_assoc false b c = refl
-
 pub no_feed_append : (a b : List ℕ) → no_feed (a ++ b) ≡ (no_feed a && no_feed b)
 unfolding no_feed
 no_feed_append [] b = refl
 no_feed_append (x ∷ a) b =
     ap (λ (t : Bool). not (eqb x 10) && t) (no_feed_append a b) ∙ sym (and_assoc (not (eqb x 10)) (no_feed a) (no_feed b))
 
-pub no_feed_more : (cs : List ℕ) (i : ℕ) → i < length cs → no_feed (take i cs) ≡ true → (get_or cs i 0 ≡ 10 → ⊥)
-    → no_feed (take (i + 1) cs) ≡ true
-unfolding no_feed
-no_feed_more cs i h e w = rw (add-one, take-suc cs i 0 h, no_feed_append, e, ne_eqb (get_or cs i 0) 10 w)
-
 -- a hex digit is not a line feed
 digit : (c : ℕ) (t : Bool) → eqb c 10 ≡ t → is_hex c ≡ true → not t ≡ true
 digit c false e h = refl
 digit c true e h = absurd (true≢false (sym h ∙ ap is_hex (eqb-true c 10 e)))
-
-and_both : (a b : Bool) → (a && b) ≡ true → (a ≡ true) × (b ≡ true)
-and_both true b e = (refl, e)
-and_both false b e = absurd (true≢false (sym e))
 
 pub hex_no_feed : (cs : List ℕ) → all_hex cs ≡ true → no_feed cs ≡ true
 unfolding no_feed
@@ -50,7 +42,7 @@ hex_no_feed (c ∷ cs) h =
 
 not_feed : (c : ℕ) (cs : List ℕ) → no_feed (c ∷ cs) ≡ true → (eqb c 10 ≡ false) × (no_feed cs ≡ true)
 unfolding no_feed
-not_feed c cs h = let b = and_both (not (eqb c 10)) (no_feed cs) h in (not-true (eqb c 10) b.0, b.1)
+not_feed c cs h = let b = and_parts (not (eqb c 10)) (no_feed cs) h in (not-true (eqb c 10) b.0, b.1)
 
 snoc : (p : List ℕ) (c : ℕ) (cs : List ℕ) → p ++ c ∷ [] ++ cs ≡ p ++ (c ∷ cs)
 snoc p c cs = append_snoc p c cs
@@ -149,18 +141,6 @@ hex_before cs n end h l e more = by_test (leb n end) refl
         let d : is_hex (get_or (take n cs) end 0) ≡ true = digit_at (take n cs) end h (omega arith) in
         absurd (true≢false (sym d ∙ ap is_hex (get_or-take n cs end 0 before ∙ e.2 more)))
 
--- a part up to the end of a list
-pub to_end : (n : ℕ) (cs : List ℕ) → take (length cs - n) (drop n cs) ≡ drop n cs
-to_end n cs = take_all (length cs - n) (drop n cs) (rw length-drop (le_refl _))
-
--- the first line feed of a list that is given as a part p
-pub ended_early : (cs p : List ℕ) (end : ℕ) → p ≡ cs → LineEnd cs end → (end ≡ length p → ⊥) → end < length cs
-ended_early cs p end e l w = let long : length p ≡ length cs = ap length e in omega arith
-
-pub none_after : (cs p : List ℕ) (end : ℕ) → p ≡ cs → LineEnd cs end → end ≡ length p → no_feed cs ≡ true
-none_after cs p end e l w =
-    rw (take_all end cs (let long : length p ≡ length cs = ap length e in omega arith)) at l.1
-
 -- a list with a line feed: the line that it ends, and the rest
 module _ (cs : List ℕ) (end : ℕ) (e : LineEnd cs end) (more : end < length cs) where
   parts : cs ≡ take end cs ++ 10 ∷ drop (end + 1) cs
@@ -175,3 +155,37 @@ module _ (cs : List ℕ) (end : ℕ) (e : LineEnd cs end) (more : end < length c
   pub printed_parts : (k : ℕ) (p : List ℕ)
       → printed k p cs ≡ line_text k (p ++ take end cs) ++ printed (k + 1) [] (drop (end + 1) cs)
   printed_parts k p = ap (printed k p) parts ∙ printed_line (take end cs) e.1 (drop (end + 1) cs) k p
+
+-- ---- the first line feed, by std's search
+
+none_case : (t : Bool) (i : ℕ) (r : Option ℕ) (b : Bool) → (r ≡ None → b ≡ true) → cond t (Some i) r ≡ None → (not t && b) ≡ true
+none_case true i r b f e = cc
+none_case false i r b f e = f e
+
+none_found : (cs : List ℕ) (i : ℕ) → position_from (λ (c : ℕ). eqb c 10) i cs ≡ None → no_feed cs ≡ true
+unfolding no_feed
+none_found [] i e = refl
+none_found (c ∷ cs) i e =
+    none_case (eqb c 10) i (position_from (λ (c : ℕ). eqb c 10) (i + 1) cs) (no_feed cs) (none_found cs (i + 1)) e
+
+none_before : (cs : List ℕ) (n : ℕ) → ((k : ℕ) → k < n → eqb (get_or cs k 0) 10 ≡ false) → n ≤ length cs → no_feed (take n cs) ≡ true
+unfolding no_feed
+none_before cs zero f h = refl
+none_before [] (suc n) f h = refl
+none_before (c ∷ cs) (suc n) f h =
+    rw (f 0 (omega arith)) (none_before cs n (λ k l. f (suc k) (omega arith)) (omega arith))
+
+module _ (cs : List ℕ) (from : ℕ) (h : from ≤ length cs) (e : no_feed (take from cs) ≡ true) where
+  pub feed_none : position (λ (c : ℕ). eqb c 10) (drop from cs) ≡ None → no_feed cs ≡ true
+  feed_none f =
+      let rest = none_found (drop from cs) 0 (sym (position_from-zero (λ (c : ℕ). eqb c 10) (drop from cs)) ∙ f) in
+      ap no_feed (sym (take-append-drop from cs)) ∙ no_feed_append (take from cs) (drop from cs) ∙ rw (e, rest) refl
+
+  pub feed_found : (n : ℕ) → position (λ (c : ℕ). eqb c 10) (drop from cs) ≡ Some n → (from + n < length cs) × LineEnd cs (from + n)
+  feed_found n f =
+      let at = position-Some (λ (c : ℕ). eqb c 10) (drop from cs) n 0 f in
+      let long = length-drop from cs in
+      let before = none_before (drop from cs) n at.2 (omega arith) in (
+        omega arith,
+        (omega arith, rw (take-add from n cs, no_feed_append, e, before) refl, λ more. eqb-true (get_or cs (from + n) 0) 10 (rw get_or-drop at at.1)),
+      )

@@ -7,14 +7,13 @@ use native.Mathlib.Nat.{zero-add, not-suc-le-zero, min-eq_left, min-eq_right}
 use native.Mathlib.Omega.{arith}
 use lib.Dec.{leb}
 use lib.ListN.{length, take, take-append-drop}
-use lib.Seq.{paste, take_all, take-length, take-append-add, length-take-le}
+use lib.Seq.{take_all, take-length, take-append-add, length-take-le}
 use borrow.Author.Tests.{leb-true, leb-false, lt-ltb, le-ltb}
-use Rattle.rows.specs.Rows.{out_line, row_in}
+use Rattle.rows.specs.Rows.{row_in}
 use Rattle.lister.specs.declared.Progress.{Progress}
-use Rattle.lister.specs.Line.{line_read, line_text}
+use Rattle.lister.specs.Line.{line_text}
 use Rattle.rows.specs.Places.{Laid}
 use Rattle.lister.specs.Stream.{printed, number_after, start_after, last_text, first289}
-use Rattle.lister.proofs.Cuts.{line_text_cut}
 use Rattle.lister.specs.Pieces.{start_in, takes, fed, finished}
 use Rattle.rows.proofs.Laying.{then, laid_start, laid_after, at_start_lem, row_none}
 
@@ -30,10 +29,6 @@ held_cut p cs l₀ l₁ l₂ a n h f g =
     let f' = rw (take_all 289 p h) at f in
     let e : a ≡ length p = f'.0 ∙ zero-add (length p) in
     laid_start (p ++ take (289 - a) cs) l₀ n l₂ (then 0 p (take (289 - a) cs) l₀ a l₁ n l₂ zero-le f' g) ∙ rw e (cut_after p cs h)
-
-pub line_out : (k : ℕ) (cs : List ℕ) → out_line k (line_read (first289 cs)) ≡ line_text k cs
-unfolding line_text
-line_out k cs = sym (line_text_cut k cs)
 
 -- characters appended to the kept ones
 pub kept_cut : (held : ℕ) (hold cs : List ℕ) (n : ℕ) (m : List ℕ) → held ≤ 289 → held ≤ length hold
@@ -108,14 +103,3 @@ fed_some from hold block out s t n h w hold' out' room e f m a b =
     let x = at_start_lem (first289 (start_after (take s hold) (take t block))) hold h hold' a in
     let y = at_start_lem (printed from.number (take s hold) (take t block)) out w out' b in
     rw (le-ltb (length hold) 289 room, ← f, ← e) (λ i. (record { progress = record { number = m i; held = (x i).0 }; taken = t; ready = (y i).0 }, (x i).1, (y i).1))
-
--- as many characters as there are, or as fit
-pub take_least : (m n : ℕ) (cs : List ℕ) → n ≡ min m (length cs) → take n cs ≡ take m cs
-take_least m n cs e = rw e (start_case (leb m (length cs)) m cs refl)
-
-pub kept_laid : (d : List ℕ) (at : ℕ) (cs out : List ℕ) (i n m : ℕ) → i ≡ n → n ≡ min m (length cs) → n ≤ length cs
-    → out ≡ paste d at cs i → Laid at (take m cs) d (at + n) out
-kept_laid d at cs out i n m e f h q =
-    let t : take n cs ≡ take m cs = take_least m n cs f in
-    let l : length (take n cs) ≡ n = length-take-le n cs h in
-    (rw (← t, l), rw (← t, l) (rw e at q))

@@ -1,4 +1,5 @@
 -- A line of hex digits and the bytes that it encodes.
+use Rattle.std.specs.Prelude.{Err}
 use mathlib.Core.Path.{◌≡◌, ◌∙◌}
 use mathlib.Core.List.{List}
 use Prim.Native.Nat.{ℕ, ◌+◌, ◌*◌, ◌%◌, ◌≤◌, ◌<◌}
@@ -6,7 +7,7 @@ use native.Mathlib.Omega.{arith}
 use lib.ListN.{length, take}
 use lib.Seq.{take_all, take-take, get_or-take, length-take-le}
 use borrow.Author.Tests.{le-ltb, eq-eqb}
-use Rattle.packet.specs.Numbers.{refusal, check}
+use Rattle.packet.specs.Numbers.{check}
 use Rattle.packet.specs.Reading.{reading}
 use Rattle.text.specs.Digits.{all_hex, unhex}
 use Rattle.lister.specs.Line.{line_read}
@@ -24,7 +25,7 @@ module _ (cs bytes : List ℕ) (n : ℕ) (h : length cs ≤ 288) (e : length cs 
       let all : take (n * 2) cs ≡ cs = take_all (n * 2) cs (omega arith) in
       even_line cs h e ∙ rw (rw all at r.3, r.4, all)
 
-  pub read_none : (n * 2 ≡ length cs → ⊥) → line_read cs ≡ refusal 0
+  pub read_none : (n * 2 ≡ length cs → ⊥) → line_read cs ≡ Err 0
   read_none w =
       let less : n * 2 < length cs = omega arith in
       even_line cs h e ∙ rw (no_byte cs (n * 2) r.3 (omega arith) (r.5 (omega arith) (omega arith)))

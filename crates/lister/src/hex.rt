@@ -7,13 +7,10 @@ ghost use Rattle.lister.specs.Runs.{HexRun};
 fn most(characters: usize) -> usize
     ensures { (result ≤ 144) × (result * 2 ≤ characters) × (result < 144 → characters < result * 2 + 2) }
 {
-    if characters < 288 {
-        characters / 2
-    } else {
-        144
-    }
+    (characters / 2).min(144)
 }
 
+#[tactic(auto, using(text::proofs::Values::value_of))]
 fn value(values: &[u8; 256], c: u8) -> u8
     requires { values.now ≡ hex_values }
     ensures { result ≡ hex_value c }
@@ -21,24 +18,21 @@ fn value(values: &[u8; 256], c: u8) -> u8
     values[c as usize]
 }
 
-// Decodes bytes up to a character that is not a hex digit, and returns their number.
+// Decodes bytes up to a character that is not a hex digit, and returns their number, since `HexRun`
+// speaks of it and of the whole array. The table marks such a character by 16, as `hex_values` promises.
+// With `bytes.iter_mut().zip(..)` the proof did not close: in such a loop nothing is known of the bytes.
 pub(crate) fn run(cs: &[u8], bytes: &mut [u8; 144], values: &[u8; 256]) -> usize
     requires { (length bytes.old ≡ 144) × (values.now ≡ hex_values) }
     ensures { HexRun cs.now result bytes.new }
 {
     let end = most(cs.len());
-    let mut i = 0;
-    while i < end {
+    for i in 0..end {
         let high = value(values, cs[i * 2]);
         let low = value(values, cs[i * 2 + 1]);
-        if 15 < high {
-            return i;
-        }
-        if 15 < low {
+        if 15 < high || 15 < low {
             return i;
         }
         bytes[i] = high * 16 + low;
-        i += 1;
     }
-    i
+    end
 }

@@ -6,51 +6,59 @@ mod lines;
 
 ghost use Rattle.std.specs.Prelude.{◌≡◌};
 ghost use Rattle.rows.specs.Rows.{out_line, row_in};
-ghost use Rattle.packet.specs.Reading.{read_result};
-ghost use Rattle.lister.specs.Line.{line_result, line_read, line_text};
+ghost use Rattle.lister.specs.Line.{error_number, line_result, line_read, line_text};
 ghost use Rattle.lister.specs.Runs.{HexRun};
+ghost use Rattle.lister.specs.declared.LineError.TheVariants.{Refused};
 ghost use Rattle.lister.specs.Pieces.{initial_progress, fed, finished};
 
-use packet::{Packet, Reading, Refusal};
+use packet::{Packet, Refusal};
 
-// What a line holds: a packet; a refusal, which for too long a line is that of a too long packet;
-// or characters that are not bytes in hex.
+// Why a line holds no packet: it is refused, too long a line as a too long packet is; or it is not
+// bytes in hex.
 #[derive(Clone, Copy)]
-pub enum Line {
-    Read(Packet),
+pub enum LineError {
     Refused(Refusal),
     Unreadable,
 }
 
-fn line_of(r: Reading) -> Line
-    ensures { line_result result ≡ read_result r }
+impl From<Refusal> for LineError {
+    ghost from_gives = { λ r e. e ≡ Refused r };
+
+    fn from(r: Refusal) -> LineError {
+        LineError::Refused(r)
+    }
+}
+
+// The number in the line's output.
+fn number_of(e: LineError) -> u8
+    ensures { result ≡ error_number e }
 {
-    match r {
-        Reading::Read(p) => Line::Read(p),
-        Reading::Refused(n) => Line::Refused(n),
+    match e {
+        LineError::Refused(r) => r as u8,
+        LineError::Unreadable => 0,
     }
 }
 
 // The content of a line whose first n bytes were decoded.
 #[tactic(auto, using(crate::proofs::Spelled::read_bytes, crate::proofs::Spelled::read_none), unfolding(crate::specs::Line::line_read))]
-pub(crate) fn read_run(line: &[u8], n: usize, bytes: &[u8]) -> Line
+pub(crate) fn read_run(line: &[u8], n: usize, bytes: &[u8]) -> Result<Packet, LineError>
     requires { HexRun line.now n bytes.now }
     ensures { line_result result ≡ line_read line.now }
 {
     if 288 < line.len() {
-        return Line::Refused(Refusal::BadLength);
+        return Err(LineError::Refused(Refusal::BadLength));
     }
     if line.len() % 2 != 0 {
-        return Line::Unreadable;
+        return Err(LineError::Unreadable);
     }
     if n * 2 != line.len() {
-        return Line::Unreadable;
+        return Err(LineError::Unreadable);
     }
-    line_of(reader::read_packet(&bytes[..n]))
+    Ok(reader::read_packet(&bytes[..n])?)
 }
 
 // Reads one line.
-pub fn read_line(line: &[u8]) -> Line
+pub fn read_line(line: &[u8]) -> Result<Packet, LineError>
     ensures { line_result result ≡ line_read line.now }
 {
     let values = text::hex_values();
@@ -59,14 +67,10 @@ pub fn read_line(line: &[u8]) -> Line
     read_run(line, n, &bytes)
 }
 
-fn put_row(number: u64, line: Line, out: &mut [u8]) -> usize
+fn put_row(number: u64, line: Result<Packet, LineError>, out: &mut [u8]) -> usize
     ensures { (result, out.new) ≡ row_in (out_line number (line_result line)) out.old }
 {
-    match line {
-        Line::Read(p) => rows::packet_row(number, p, out),
-        Line::Refused(r) => rows::bad_row(number, packet::number(r), out),
-        Line::Unreadable => rows::bad_row(number, 0, out),
-    }
+    rows::put_row(number, line.map_err(number_of), out)
 }
 
 // Writes the output line of line `number` to the start of `out` and returns its length. An `out` of
@@ -79,7 +83,7 @@ pub fn list_line(number: u64, line: &[u8], out: &mut [u8]) -> usize
 }
 
 // The state between two blocks: the number of the unfinished line, and how many of its
-// characters are kept in `hold`.
+// characters are kept in `hold`, which the caller lends to `feed` and `finish`.
 #[derive(Clone, Copy)]
 pub struct Progress {
     pub number: u64,
@@ -108,26 +112,21 @@ pub struct Fed {
 pub fn feed(from: Progress, hold: &mut [u8], block: &[u8], out: &mut [u8]) -> Fed
     ensures { (result, hold.new, out.new) ≡ fed from hold.old block.now out.old }
 {
-    let held = lines::least(lines::least(from.held, 289), hold.len());
+    let held = from.held.min(289).min(hold.len());
+    let start = Progress { held, ..from };
     if hold.len() < 289 {
         return Fed {
-            progress: Progress {
-                number: from.number,
-                held,
-            },
+            progress: start,
             taken: 0,
             ready: 0,
         };
     }
     let taken = lines::takes(from.number, block.len(), out.len());
-    let k = lines::take_in(from.number, held, hold, &block[..taken], out);
+    let (progress, ready) = lines::take_in(start, hold, &block[..taken], out);
     Fed {
-        progress: Progress {
-            number: k.number,
-            held: k.held,
-        },
+        progress,
         taken,
-        ready: k.written,
+        ready,
     }
 }
 
@@ -137,7 +136,7 @@ pub fn feed(from: Progress, hold: &mut [u8], block: &[u8], out: &mut [u8]) -> Fe
 pub fn finish(from: Progress, hold: &[u8], out: &mut [u8]) -> usize
     ensures { (result, out.new) ≡ finished from hold.now out.old }
 {
-    let held = lines::least(lines::least(from.held, 289), hold.len());
+    let held = from.held.min(289).min(hold.len());
     if held == 0 {
         return 0;
     }

@@ -49,11 +49,11 @@ fn write_last<W: Write>(
 fn list_all<R: Read, W: Write>(
     input: &mut R,
     output: &mut W,
-    hold: &mut [u8],
+    hold: &mut [u8; 289],
     block: &mut [u8],
     out: &mut [u8],
 ) -> io::Result<()>
-    requires { (289 ≤ length hold.old) × (64 ≤ length out.old) × (length block.old * 64 ≤ length out.old) }
+    requires { (64 ≤ length out.old) × (length block.old * 64 ≤ length out.old) }
     ensures { OnOk result (0 < length block.old → Listed (R.remaining input.old) (R.remaining input.new) (W.contents output.old) (W.contents output.new)) }
 {
     let mut progress = lister::start();

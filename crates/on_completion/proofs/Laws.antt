@@ -13,7 +13,6 @@ use Rattle.tags.specs.declared.PendingTranslation.{PendingTranslation}
 use Rattle.tags.specs.declared.PendingRead.{PendingRead}
 use Rattle.tags.specs.declared.TagState.{TagState}
 use Rattle.tags.specs.declared.TagState.TheVariants.{Free, Translate, Read}
-use Rattle.tags.specs.declared.TagRow.{TagRow}
 use Rattle.tags.specs.Tags.{tag_state, set_tag}
 use Rattle.pages.specs.declared.Pages.{Pages}
 use Rattle.translations.specs.declared.Part.{Part}
@@ -31,7 +30,7 @@ use Rattle.on_completion.specs.Completions.{completed_for, completed}
 module _ (f : Function) (c : Completion) (load : List ℕ) where
   -- a property of the tables that holds for any new state of the tag, also with the translations of a live request
   -- applied, holds after a completion
-  pub completed_keeps : (P : Cache → List TagRow → Pages → Type 0)
+  pub completed_keeps : (P : Cache → List TagState → Pages → Type 0)
       → ((o : TagState) → P f.cache (set_tag f.tags c.tag o) f.pages)
       → ((q : PendingTranslation) (o : TagState) → tag_state f.tags c.tag ≡ Translate q → is_live f q ≡ true → P (applied q load f.cache) (set_tag f.tags c.tag o) f.pages)
       → Does (λ d. P d.state.cache d.state.tags d.state.pages) (completed f c load)

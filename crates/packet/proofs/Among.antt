@@ -1,4 +1,5 @@
 -- Which numbers a call can be refused with.
+use Rattle.std.specs.Prelude.{Err, None, Ok, Option, Result, Some}
 use mathlib.Core.Path.{◌≡◌, refl}
 use mathlib.Core.Bool.{Bool, true, false, cond, ◌&&◌}
 use mathlib.Core.List.{List, [], ◌∷◌}
@@ -7,8 +8,6 @@ use native.Mathlib.Omega.{arith}
 use lib.Dec.{ltb, eqb, lit≤}
 use borrow.Author.Tests.{eqb-true, lt-ltb, le-leb, eq-eqb, ne_eqb}
 use Rattle.lemmas.proofs.Cases.{by_cases, either_case, and_both, never_both, impossible}
-use Rattle.packet.specs.declared.Choice.{Choice}
-use Rattle.packet.specs.declared.Choice.TheVariants.{Listed, Unlisted}
 use Rattle.packet.specs.declared.Frame.{Frame}
 use Rattle.packet.specs.declared.Form.{Form}
 use Rattle.packet.specs.declared.Head.{Head}
@@ -19,7 +18,6 @@ use Rattle.packet.specs.declared.InvalidateCompletion.{InvalidateCompletion}
 use Rattle.packet.specs.declared.PageRequest.{PageRequest}
 use Rattle.packet.specs.declared.Body.TheVariants.{Tr, Mem, Ic, Prq}
 use Rattle.packet.specs.declared.Packet.{Packet}
-use Rattle.packet.specs.Numbers.{Result, ok, refusal}
 use Rattle.packet.specs.Forms.{payload_offset}
 use Rattle.packet.specs.Kinds.{body_in_range, allowed_body, allowed, short_enough, payload_length, form_of}
 use Rattle.packet.specs.Reading.{read_form, read_choice, reading}
@@ -27,17 +25,17 @@ use Rattle.packet.specs.Writing.{writing}
 use Rattle.packet.specs.Among.{is_among}
 
 -- if the result is a refusal, its number is on the list
-pub record Among {A : Type 0} (l : List ℕ) (s : Result A) : Type 0 where
-  pub one : (n : ℕ) → s ≡ refusal n → is_among n l ≡ true
+pub record Among {A : Type 0} (l : List ℕ) (s : Result A ℕ) : Type 0 where
+  pub one : (n : ℕ) → s ≡ Err n → is_among n l ≡ true
 
 module _ {A : Type 0} (l : List ℕ) where
-  pub among_ok : (a : A) → Among l (ok a)
+  pub among_ok : (a : A) → Among l (Ok a)
   among_ok a = record { one = λ n e. impossible cc }
 
-  pub among_refusal : (n : ℕ) → is_among n l ≡ true → Among {A = A} l (refusal n)
+  pub among_refusal : (n : ℕ) → is_among n l ≡ true → Among {A = A} l (Err n)
   among_refusal n h = record { one = λ m e. let same : n ≡ m = cc in rw same at h }
 
-  pub among_case : (t : Bool) (a b : Result A) → (t ≡ true → Among l a) → (t ≡ false → Among l b) → Among l (cond t a b)
+  pub among_case : (t : Bool) (a b : Result A ℕ) → (t ≡ true → Among l a) → (t ≡ false → Among l b) → Among l (cond t a b)
   among_case t a b = either_case (Among l) t a b
 
 pub ruleset among = (among_ok, among_refusal, among_case)
@@ -55,7 +53,7 @@ every_one_lem p (m ∷ l) n h e =
     by_cases (eqb n m) (λ t. rw (eqb-true n m t) both.0) (λ t. every_one_lem p l n both.1 (rw t at e))
 
 -- a longer list of numbers holds too
-pub among_monotone : {A : Type 0} (l m : List ℕ) (s : Result A) → every_one (λ n. is_among n m) l ≡ true → Among l s
+pub among_monotone : {A : Type 0} (l m : List ℕ) (s : Result A ℕ) → every_one (λ n. is_among n m) l ≡ true → Among l s
     → Among m s
 among_monotone l m s h x = record { one = λ n e. every_one_lem (λ k. is_among k m) l n h (x.one n e) }
 
@@ -65,9 +63,9 @@ reading_form : (m : Form) (f : Frame) (n : ℕ) → Among (1 ∷ 2 ∷ 3 ∷ 4 �
 unfolding read_form
 reading_form m f n = search among
 
-reading_choice : (c : Choice) (f : Frame) (n : ℕ) → Among (1 ∷ 2 ∷ 3 ∷ 4 ∷ []) (read_choice c f n)
-reading_choice (Listed m) f n = reading_form m f n
-reading_choice Unlisted f n = search among
+reading_choice : (c : Option Form) (f : Frame) (n : ℕ) → Among (1 ∷ 2 ∷ 3 ∷ 4 ∷ []) (read_choice c f n)
+reading_choice (Some m) f n = reading_form m f n
+reading_choice None f n = search among
 
 -- reading refuses only with 1, 2, 3 or 4
 pub reading_numbers : (b : List ℕ) → Among (1 ∷ 2 ∷ 3 ∷ 4 ∷ []) (reading b)
@@ -95,7 +93,7 @@ unfolding writing
 only_room l p load room h s =
     let n = payload_offset (form_of p.body) + load in
     rw (lt-ltb p.head.tc 8 s.tc, s.body, eq-eqb load (payload_length p.body) s.fills, s.allows)
-    (among_case l (ltb room n) (refusal 17) (ok n) (λ short. among_refusal l 17 h) (λ long. among_ok l n))
+    (among_case l (ltb room n) (Err 17) (Ok n) (λ short. among_refusal l 17 h) (λ long. among_ok l n))
 
 short : (w : ℕ) → 1 ≤ w → w ≤ 32 → short_enough w ≡ true
 short w some few = rw (ne_eqb w 0 (omega arith), le-leb w 32 few)

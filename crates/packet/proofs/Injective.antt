@@ -1,4 +1,5 @@
 -- The result of an answer determines the answer.
+use Rattle.std.specs.Prelude.{Err, Ok, Result}
 use mathlib.Core.Path.{◌≡◌, refl, sym, ap, ◌∙◌}
 use mathlib.Core.Bool.{cond}
 use Prim.Native.Nat.{ℕ, ◌≤◌}
@@ -6,13 +7,7 @@ use lib.Dec.{eqb, lit≤}
 use Rattle.packet.specs.declared.Packet.{Packet}
 use Rattle.packet.specs.declared.Refusal.{Refusal}
 use Rattle.packet.specs.declared.Refusal.TheVariants.{BadLength, UnsupportedKind, PoisonedOrDigest, ForbiddenValue, OtherFunction, Disabled, NothingPending, BadCompletion, ITagInUse, OtherAgent, NoFreeTag, BadArgument, NoEntry, NoPermission, PagesNotOn, NoCreditOrGroupWaits, BufferTooShort}
-use Rattle.packet.specs.declared.Reading.{Reading}
-use Rattle.packet.specs.declared.Reading.TheVariants.{Read, Refused}
-use Rattle.packet.specs.declared.Writing.{Writing}
-use Rattle.packet.specs.declared.Writing.TheVariants.{Written, Refused as Unwritten}
-use Rattle.packet.specs.Numbers.{Result, ok, refusal, number_of}
-use Rattle.packet.specs.Reading.{read_result}
-use Rattle.packet.specs.Writing.{write_result}
+use Rattle.packet.specs.Numbers.{number_of, numbered}
 
 -- the refusal with a number
 unfoldable pub refusal_of : ℕ → Refusal
@@ -81,26 +76,26 @@ number_between BufferTooShort = (lit≤ tt, lit≤ tt)
 
 -- the answers that have these results
 
-read_of : Result Packet → Reading
-read_of (ok p) = Read p
-read_of (refusal n) = Refused (refusal_of n)
+read_of : Result Packet ℕ → Result Packet Refusal
+read_of (Ok p) = Ok p
+read_of (Err n) = Err (refusal_of n)
 
-read_back : (r : Reading) → read_of (read_result r) ≡ r
+read_back : (r : Result Packet Refusal) → read_of (numbered r) ≡ r
 unfolding read_of
-read_back (Read p) = refl
-read_back (Refused r) = ap Refused (refusal_back r)
+read_back (Ok p) = refl
+read_back (Err r) = ap Err (refusal_back r)
 
-pub read_result_injective : (r s : Reading) → read_result r ≡ read_result s → r ≡ s
+pub read_result_injective : (r s : Result Packet Refusal) → numbered r ≡ numbered s → r ≡ s
 read_result_injective r s e = sym (read_back r) ∙ ap read_of e ∙ read_back s
 
-written_of : Result ℕ → Writing
-written_of (ok n) = Written n
-written_of (refusal n) = Unwritten (refusal_of n)
+written_of : Result ℕ ℕ → Result ℕ Refusal
+written_of (Ok n) = Ok n
+written_of (Err n) = Err (refusal_of n)
 
-written_back : (r : Writing) → written_of (write_result r) ≡ r
+written_back : (r : Result ℕ Refusal) → written_of (numbered r) ≡ r
 unfolding written_of
-written_back (Written n) = refl
-written_back (Unwritten r) = ap Unwritten (refusal_back r)
+written_back (Ok n) = refl
+written_back (Err r) = ap Err (refusal_back r)
 
-pub write_result_injective : (r s : Writing) → write_result r ≡ write_result s → r ≡ s
+pub write_result_injective : (r s : Result ℕ Refusal) → numbered r ≡ numbered s → r ≡ s
 write_result_injective r s e = sym (written_back r) ∙ ap written_of e ∙ written_back s

@@ -1,4 +1,5 @@
 -- Reading depends on Attr in nothing but the packet's own Attr.
+use Rattle.std.specs.Prelude.{Err, None, Ok, Option, Result, Some}
 use Prim.Native.Nat.{ℕ, ◌/◌, ◌%◌, ◌≤◌}
 use native.Mathlib.Omega.{arith}
 use mathlib.Core.Path.{◌≡◌, refl}
@@ -10,11 +11,8 @@ use borrow.Author.Tests.{ltb-false}
 use Rattle.lemmas.proofs.Cases.{by_cases}
 use Rattle.packet.specs.declared.Packet.{Packet}
 use Rattle.packet.specs.declared.Frame.{Frame}
-use Rattle.packet.specs.declared.Choice.{Choice}
-use Rattle.packet.specs.declared.Choice.TheVariants.{Listed, Unlisted}
 use Rattle.packet.specs.declared.Form.{Form}
 use Rattle.packet.specs.declared.Form.TheVariants.{Mrd32, Mrd64, Mwr32, Mwr64, CplNoData, CplData, InvReq, InvCpl, PageReq, PrgResp}
-use Rattle.packet.specs.Numbers.{Result, ok, refusal}
 use Rattle.packet.specs.Frames.{byte, attr_at, decode_frame}
 use Rattle.packet.specs.Forms.{choose, packet_length}
 use Rattle.packet.specs.Kinds.{attr_zero, body_in, well_formed, allowed_body}
@@ -23,15 +21,15 @@ use Rattle.packet.specs.SameButAttr.{SameButAttr}
 use Rattle.packet.proofs.Laws.{by_fixed}
 
 -- what was read, with Attr cleared
-abbrev pub attr_cleared : Result Packet → Result Packet
-attr_cleared (ok p) = ok (record { head = record { tc = p.head.tc; attr = attr_zero; sender = p.head.sender }; body = p.body })
-attr_cleared (refusal n) = refusal n
+abbrev pub attr_cleared : Result Packet ℕ → Result Packet ℕ
+attr_cleared (Ok p) = Ok (record { head = record { tc = p.head.tc; attr = attr_zero; sender = p.head.sender }; body = p.body })
+attr_cleared (Err n) = Err n
 
 -- ---- frames
 
 -- both pass a test, or neither does
-same_test : (t : Bool) (n : ℕ) (x y : Result Packet) → attr_cleared x ≡ attr_cleared y
-    → attr_cleared (cond t x (refusal n)) ≡ attr_cleared (cond t y (refusal n))
+same_test : (t : Bool) (n : ℕ) (x y : Result Packet ℕ) → attr_cleared x ≡ attr_cleared y
+    → attr_cleared (cond t x (Err n)) ≡ attr_cleared (cond t y (Err n))
 same_test true n x y e = e
 same_test false n x y e = refl
 
@@ -74,18 +72,18 @@ module _ (f : Frame) (attr : ℕ) where
       (same_test (well_formed m f) 4 _ _
       (same_test (allowed_body f.common.tc (body_in m f)) 4 _ _ refl))))
 
-  same_choice : (c : Choice) (n : ℕ) → attr_cleared (read_choice c with_attr n) ≡ attr_cleared (read_choice c f n)
-  same_choice (Listed m) n = same_form m n
-  same_choice Unlisted n = refl
+  same_choice : (c : Option Form) (n : ℕ) → attr_cleared (read_choice c with_attr n) ≡ attr_cleared (read_choice c f n)
+  same_choice (Some m) n = same_form m n
+  same_choice None n = refl
 
 -- ---- bytes
 
 -- the payload begins after byte 3
-payload_as_lem : (b0 b1 b2 c0 c1 c2 : ℕ) (r : List ℕ) (c : Choice)
+payload_as_lem : (b0 b1 b2 c0 c1 c2 : ℕ) (r : List ℕ) (c : Option Form)
     → payload_as c (b0 ∷ b1 ∷ b2 ∷ r) ≡ payload_as c (c0 ∷ c1 ∷ c2 ∷ r)
-payload_as_lem b0 b1 b2 c0 c1 c2 r (Listed m) =
+payload_as_lem b0 b1 b2 c0 c1 c2 r (Some m) =
     by_fixed (λ (n : ℕ). drop n (b0 ∷ b1 ∷ b2 ∷ r) ≡ drop n (c0 ∷ c1 ∷ c2 ∷ r)) refl refl refl m
-payload_as_lem b0 b1 b2 c0 c1 c2 r Unlisted = refl
+payload_as_lem b0 b1 b2 c0 c1 c2 r None = refl
 
 abbrev Same : List ℕ → List ℕ → Type 0
 Same b c =

@@ -1,23 +1,21 @@
 -- The first column of the table of kinds: what byte 0, and for a message byte 7, determine. 01, "The seven packets".
-use Rattle.std.specs.Prelude.{ℕ, ◌+◌, ◌*◌, ◌/◌, ◌%◌, Bool, cond, eqb}
-use Rattle.packet.specs.declared.Choice.{Choice}
-use Rattle.packet.specs.declared.Choice.TheVariants.{Listed, Unlisted}
+use Rattle.std.specs.Prelude.{ℕ, ◌+◌, ◌*◌, ◌/◌, ◌%◌, Bool, cond, eqb, None, Option, Some}
 use Rattle.packet.specs.declared.Form.{Form}
 use Rattle.packet.specs.declared.Form.TheVariants.{Mrd32, Mrd64, Mwr32, Mwr64, CplNoData, CplData, InvReq, InvCpl, PageReq, PrgResp}
 
 -- byte 0 selects the form, and byte 7 among messages; any other values are unlisted
-unfoldable pub choose : ℕ → ℕ → Choice
+unfoldable pub choose : ℕ → ℕ → Option Form
 choose b0 b7 =
-    cond (eqb b0 0x00) (Listed Mrd32)
-    (cond (eqb b0 0x20) (Listed Mrd64)
-    (cond (eqb b0 0x40) (Listed Mwr32)
-    (cond (eqb b0 0x60) (Listed Mwr64)
-    (cond (eqb b0 0x0A) (Listed CplNoData)
-    (cond (eqb b0 0x4A) (Listed CplData)
-    (cond (eqb b0 0x72) (cond (eqb b7 0x01) (Listed InvReq) Unlisted)
-    (cond (eqb b0 0x32) (cond (eqb b7 0x02) (Listed InvCpl) (cond (eqb b7 0x05) (Listed PrgResp) Unlisted))
-    (cond (eqb b0 0x30) (cond (eqb b7 0x04) (Listed PageReq) Unlisted)
-    Unlisted))))))))
+    cond (eqb b0 0x00) (Some Mrd32)
+    (cond (eqb b0 0x20) (Some Mrd64)
+    (cond (eqb b0 0x40) (Some Mwr32)
+    (cond (eqb b0 0x60) (Some Mwr64)
+    (cond (eqb b0 0x0A) (Some CplNoData)
+    (cond (eqb b0 0x4A) (Some CplData)
+    (cond (eqb b0 0x72) (cond (eqb b7 0x01) (Some InvReq) None)
+    (cond (eqb b0 0x32) (cond (eqb b7 0x02) (Some InvCpl) (cond (eqb b7 0x05) (Some PrgResp) None))
+    (cond (eqb b0 0x30) (cond (eqb b7 0x04) (Some PageReq) None)
+    None))))))))
 
 -- byte 0 of each form
 abbrev pub byte0_of : Form → ℕ

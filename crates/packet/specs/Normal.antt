@@ -1,8 +1,6 @@
 -- The named bits of each kind as a mask, from the table. Bits outside the mask are ignored on reading and written as zero. 01, "The seven packets".
-use Rattle.std.specs.Prelude.{ℕ, Bool, cond, List, [], ◌∷◌, ◌++◌, eqb}
+use Rattle.std.specs.Prelude.{ℕ, Bool, cond, List, [], ◌∷◌, ◌++◌, eqb, None, Option, Some}
 use Rattle.std.specs.Int.Bits.{bit_and}
-use Rattle.packet.specs.declared.Choice.{Choice}
-use Rattle.packet.specs.declared.Choice.TheVariants.{Listed, Unlisted}
 use Rattle.packet.specs.declared.Form.{Form}
 use Rattle.packet.specs.declared.Form.TheVariants.{Mrd32, Mrd64, Mwr32, Mwr64, CplNoData, CplData, InvReq, InvCpl, PageReq, PrgResp}
 use Rattle.packet.specs.Frames.{byte, decode_frame}
@@ -69,9 +67,9 @@ masked [] xs = xs
 masked (m ∷ ms) [] = []
 masked (m ∷ ms) (x ∷ xs) = bit_and x m ∷ masked ms xs
 
-abbrev pub normal_as : Choice → Bool → List ℕ → List ℕ
-normal_as (Listed m) tr b = masked (mask_of m tr) b
-normal_as Unlisted tr b = b
+abbrev pub normal_as : Option Form → Bool → List ℕ → List ℕ
+normal_as (Some m) tr b = masked (mask_of m tr) b
+normal_as None tr b = b
 
 -- a packet with its ignored bits cleared
 unfoldable pub normal : List ℕ → List ℕ

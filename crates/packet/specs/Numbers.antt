@@ -1,5 +1,5 @@
 -- The seventeen numbers, and the result of a call. 01, "The seventeen numbers".
-use Rattle.std.specs.Prelude.{ℕ, Bool, cond}
+use Rattle.std.specs.Prelude.{ℕ, Bool, cond, Result, Ok, Err}
 use Rattle.packet.specs.declared.Refusal.{Refusal}
 use Rattle.packet.specs.declared.Refusal.TheVariants.{BadLength, UnsupportedKind, PoisonedOrDigest, ForbiddenValue, OtherFunction, Disabled, NothingPending, BadCompletion, ITagInUse, OtherAgent, NoFreeTag, BadArgument, NoEntry, NoPermission, PagesNotOn, NoCreditOrGroupWaits, BufferTooShort}
 
@@ -22,15 +22,15 @@ number_of PagesNotOn = 15
 number_of NoCreditOrGroupWaits = 16
 number_of BufferTooShort = 17
 
--- A call succeeds with a value, or is refused with a number.
-pub data Result (A : Type 0) : Type 0 where
-  ok : A → Result A
-  refusal : ℕ → Result A
+-- the result of a call, with the number of a refusal in place of its name
+abbrev pub numbered : {A : Type 0} → Result A Refusal → Result A ℕ
+numbered (Ok a) = Ok a
+numbered (Err r) = Err (number_of r)
 
 -- refused with n if the test holds, otherwise `next`
-abbrev pub refuse : {A : Type 0} → ℕ → Bool → Result A → Result A
-refuse n t next = cond t (refusal n) next
+abbrev pub refuse : {A : Type 0} → ℕ → Bool → Result A ℕ → Result A ℕ
+refuse n t next = cond t (Err n) next
 
 -- `next` if the test holds, otherwise refused with n
-abbrev pub check : {A : Type 0} → ℕ → Bool → Result A → Result A
-check n t next = cond t next (refusal n)
+abbrev pub check : {A : Type 0} → ℕ → Bool → Result A ℕ → Result A ℕ
+check n t next = cond t next (Err n)

@@ -1,28 +1,21 @@
 -- Writing, in its order: 12, 4, 17; the bytes of a packet; the buffer afterwards. 01, "Order".
-use Rattle.std.specs.Prelude.{ℕ, ◌+◌, List, ◌++◌, length, take, drop, ltb, eqb}
+use Rattle.std.specs.Prelude.{ℕ, ◌+◌, List, ◌++◌, length, take, drop, ltb, eqb, Err, Ok, Result}
 use Rattle.packet.specs.declared.Packet.{Packet}
-use Rattle.packet.specs.declared.Writing.{Writing}
-use Rattle.packet.specs.declared.Writing.TheVariants.{Written, Refused}
-use Rattle.packet.specs.Numbers.{Result, ok, refusal, number_of, refuse, check}
+use Rattle.packet.specs.Numbers.{refuse, check}
 use Rattle.packet.specs.Frames.{encode_frame}
 use Rattle.packet.specs.Forms.{payload_offset}
 use Rattle.packet.specs.Kinds.{fields_in_range, allowed, payload_length, form_of, frame_of}
-
--- the result of an answer of the code
-abbrev pub write_result : Writing → Result ℕ
-write_result (Written n) = ok n
-write_result (Refused r) = refusal (number_of r)
 
 -- the bytes of a packet: its fields, and then its payload
 unfoldable pub bytes_of : Packet → List ℕ → List ℕ
 bytes_of p payload = take (payload_offset (form_of p.body)) (encode_frame (frame_of p)) ++ payload
 
 -- n if there is room for n bytes, otherwise refused with 17
-abbrev pub check_room : ℕ → ℕ → Result ℕ
-check_room n room = refuse 17 (ltb room n) (ok n)
+abbrev pub check_room : ℕ → ℕ → Result ℕ ℕ
+check_room n room = refuse 17 (ltb room n) (Ok n)
 
 -- load is the length of the payload, room that of the buffer
-unfoldable pub writing : Packet → ℕ → ℕ → Result ℕ
+unfoldable pub writing : Packet → ℕ → ℕ → Result ℕ ℕ
 writing p load room =
     check 12 (fields_in_range p)
     (check 12 (eqb load (payload_length p.body))
@@ -30,6 +23,6 @@ writing p load room =
     (check_room (payload_offset (form_of p.body) + load) room)))
 
 -- the buffer afterwards: the packet at its start and the rest unchanged, or all of it unchanged
-abbrev pub buffer_after : Result ℕ → List ℕ → List ℕ → List ℕ
-buffer_after (ok n) bytes out = bytes ++ drop (length bytes) out
-buffer_after (refusal k) bytes out = out
+abbrev pub buffer_after : Result ℕ ℕ → List ℕ → List ℕ → List ℕ
+buffer_after (Ok n) bytes out = bytes ++ drop (length bytes) out
+buffer_after (Err k) bytes out = out

@@ -22,23 +22,23 @@ pub struct PrgIndex(pub u16);
 // The seventeen refusals, in the order of their numbers.
 #[derive(Clone, Copy)]
 pub enum Refusal {
-    BadLength,
-    UnsupportedKind,
-    PoisonedOrDigest,
-    ForbiddenValue,
-    OtherFunction,
-    Disabled,
-    NothingPending,
-    BadCompletion,
-    ITagInUse,
-    OtherAgent,
-    NoFreeTag,
-    BadArgument,
-    NoEntry,
-    NoPermission,
-    PagesNotOn,
-    NoCreditOrGroupWaits,
-    BufferTooShort,
+    BadLength = 1,
+    UnsupportedKind = 2,
+    PoisonedOrDigest = 3,
+    ForbiddenValue = 4,
+    OtherFunction = 5,
+    Disabled = 6,
+    NothingPending = 7,
+    BadCompletion = 8,
+    ITagInUse = 9,
+    OtherAgent = 10,
+    NoFreeTag = 11,
+    BadArgument = 12,
+    NoEntry = 13,
+    NoPermission = 14,
+    PagesNotOn = 15,
+    NoCreditOrGroupWaits = 16,
+    BufferTooShort = 17,
 }
 
 // The three Attr bits: ID-based ordering, Relaxed Ordering and No Snoop.
@@ -163,12 +163,6 @@ pub enum Form {
     PrgResp,
 }
 
-#[derive(Clone, Copy)]
-pub enum Choice {
-    Listed(Form),
-    Unlisted,
-}
-
 // The values of the bits that mean the same in every kind. `attr` is Attr as a number of three
 // bits, and `marks` is TD and EP.
 #[derive(Clone, Copy)]
@@ -194,43 +188,11 @@ pub struct Frame {
     pub body: u64,
 }
 
-// The result of reading: a packet, or a refusal.
-#[derive(Clone, Copy)]
-pub enum Reading {
-    Read(Packet),
-    Refused(Refusal),
-}
-
-// The result of writing: the packet's length, or a refusal.
-#[derive(Clone, Copy)]
-pub enum Writing {
-    Written(usize),
-    Refused(Refusal),
-}
-
-// The number of a refusal in document 01.
+// The number of a refusal in document 01. It is an operation of the card, and stays beside the cast.
 pub fn number(r: Refusal) -> u8
     ensures { result ≡ number_of r }
 {
-    match r {
-        Refusal::BadLength => 1,
-        Refusal::UnsupportedKind => 2,
-        Refusal::PoisonedOrDigest => 3,
-        Refusal::ForbiddenValue => 4,
-        Refusal::OtherFunction => 5,
-        Refusal::Disabled => 6,
-        Refusal::NothingPending => 7,
-        Refusal::BadCompletion => 8,
-        Refusal::ITagInUse => 9,
-        Refusal::OtherAgent => 10,
-        Refusal::NoFreeTag => 11,
-        Refusal::BadArgument => 12,
-        Refusal::NoEntry => 13,
-        Refusal::NoPermission => 14,
-        Refusal::PagesNotOn => 15,
-        Refusal::NoCreditOrGroupWaits => 16,
-        Refusal::BufferTooShort => 17,
-    }
+    r as u8
 }
 
 // The number of DWORDs that a Length field stands for.
@@ -284,34 +246,24 @@ fn is_allowed_outcome(o: Outcome) -> bool
 fn codes_size(address: u64, sized: bool) -> bool
     ensures { result ≡ codes_size address sized }
 {
-    if sized {
-        address / 4096 != 0xF_FFFF_FFFF_FFFF
-    } else {
-        true
-    }
+    !sized || address / 4096 != 0xF_FFFF_FFFF_FFFF
 }
 
 fn is_even_and_short(dwords: u16) -> bool
     ensures { result ≡ even_and_short dwords }
 {
-    if dwords % 2 == 0 {
-        is_short(dwords)
-    } else {
-        false
-    }
+    dwords % 2 == 0 && is_short(dwords)
 }
 
 // Does no field have a forbidden value?
+#[tactic(auto, unfolding(crate::specs::Kinds::allowed_body))]
 pub fn is_allowed(tc: u8, body: Body) -> bool
     ensures { result ≡ allowed_body tc body }
 {
     match body {
         Body::Tr(t) => is_even_and_short(t.dwords),
         Body::Mem(m) => is_short(m.dwords),
-        Body::Cpl(c) => {
-            let outcome = c.outcome;
-            is_allowed_outcome(outcome)
-        }
+        Body::Cpl(c) => is_allowed_outcome(c.outcome),
         Body::Inv(i) => codes_size(i.address, i.sized),
         Body::Ic(_) => true,
         Body::Prq(_) => tc == 0,

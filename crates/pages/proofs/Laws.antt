@@ -1,15 +1,14 @@
 -- Laws of the page request interface.
 use Rattle.std.proofs.Common.{◌≡◌, ℕ, ◌+◌, ◌^◌, ◌<◌, ◌≤◌, Bool, true, false, List, length, set, refl, ◌∙◌, le_refl, arith, length-set, get_or-set_other, get_or-set_same, ltb-true, leb-false, leb-true}
 use Rattle.lemmas.proofs.Cases.{by_cases, either_case}
-use Rattle.lemmas.specs.Fold.{fold_map}
-use Rattle.lemmas.proofs.Fold.{sum_set}
+use Rattle.std.proofs.lemmas.List.Sums.{sum_by-set}
 use Rattle.packet.specs.declared.PrgIndex.{PrgIndex}
 use Rattle.pages.specs.declared.Group.{Group}
 use Rattle.pages.specs.Pages.{idle, closed_all, is_index, group_at, is_waiting, requests_of, used_credits, is_spent, one_more_request, request_added, closed}
 
 -- if all groups are closed, no credit is in use
 pub none_used_credits : used_credits closed_all ≡ 0
-unfolding used_credits fold_map
+unfolding used_credits
 none_used_credits = refl
 
 -- there are 32 groups
@@ -48,7 +47,7 @@ module _ (groups : List Group) (all : length groups ≡ 32) (k : PrgIndex) where
     where
       set_used : is_index k ≡ true
           → used_credits (set groups k.0 idle) + (group_at groups k).requests ≡ used_credits groups
-      set_used t = omega (arith, sum_set requests_of groups k.0 idle idle (rw all (ltb-true k.0 32 t)))
+      set_used t = omega (arith, sum_by-set requests_of groups k.0 idle idle (rw all (ltb-true k.0 32 t)))
 
   -- ---- adding a request to a group
 
@@ -81,7 +80,7 @@ module _ (groups : List Group) (all : length groups ≡ 32) (k : PrgIndex) (own 
   -- and the credits of its requests return, no more and no fewer
   pub close_used : used_credits (closed groups k) + (group_at groups k).requests ≡ used_credits groups
   unfolding used_credits closed
-  close_used = rw own (omega (arith, sum_set requests_of groups k.0 idle idle within))
+  close_used = rw own (omega (arith, sum_by-set requests_of groups k.0 idle idle within))
 
   module _ (last : Bool) where
     -- has one more request once a request is added,
@@ -98,7 +97,7 @@ module _ (groups : List Group) (all : length groups ≡ 32) (k : PrgIndex) (own 
       -- adding a request uses one credit, if one was free,
       pub added_used : used_credits (request_added groups k last) ≡ used_credits groups + 1
       unfolding used_credits request_added
-      added_used = rw own (omega (arith, close_used, free_lt groups allocation some, sum_set requests_of groups k.0 (one_more_request (group_at groups k) last) idle within))
+      added_used = rw own (omega (arith, close_used, free_lt groups allocation some, sum_by-set requests_of groups k.0 (one_more_request (group_at groups k) last) idle within))
 
 -- so that never more are in use than allocated
 pub added_fits : (groups : List Group) (all : length groups ≡ 32) (k : PrgIndex) (last : Bool) (allocation : ℕ)

@@ -1,6 +1,6 @@
 -- The page request interface. 01, "Page requests".
 use Rattle.std.specs.Prelude.{ℕ, ◌+◌, ◌%◌, ◌^◌, Bool, false, cond, ◌&&◌, List, replicate, nat_le, nat_lt, slice_index_or, slice_set}
-use Rattle.lemmas.specs.Fold.{fold_map}
+use Rattle.std.specs.List.{sum_by}
 use Rattle.packet.specs.declared.PrgIndex.{PrgIndex}
 use Rattle.pages.specs.declared.Interface.TheVariants.{Off, On, Stopped}
 use Rattle.pages.specs.declared.Group.{Group}
@@ -37,7 +37,7 @@ requests_of g = g.requests
 
 -- the credits in use: one for each request of an open group
 unfoldable pub used_credits : List Group → ℕ
-used_credits groups = fold_map ◌+◌ requests_of groups
+used_credits groups = sum_by requests_of groups
 
 unfoldable pub is_spent : List Group → ℕ → Bool
 is_spent groups allocation = nat_le allocation (used_credits groups)

@@ -1,4 +1,5 @@
 -- What is encoded is decoded again.
+use Rattle.std.specs.Prelude.{Some}
 use mathlib.Core.Path.{◌≡◌, refl, sym, ap, ◌∙◌}
 use mathlib.Core.Bool.{Bool, true, false, cond}
 use Prim.Native.Nat.{ℕ, suc, ◌+◌, ◌-◌, ◌*◌, ◌/◌, ◌%◌, ◌^◌, ◌<◌, ◌≤◌}
@@ -10,7 +11,6 @@ use lib.Dec.{eqb, ltb}
 use lib.Pow.{pow-add, pow_pos, pow_mono, shr-shr, high}
 use borrow.Author.Tests.{lt-ltb, le-ltb}
 use Rattle.lemmas.proofs.Powers.{region_lt}
-use Rattle.ranges.specs.declared.Size.TheVariants.{Exponent}
 use Rattle.ranges.specs.declared.Translation.{Translation}
 use Rattle.ranges.specs.Size.{bit, size_of, base_of, translation_of, coded, word_of}
 use Rattle.ranges.specs.Range.{region_of}
@@ -51,11 +51,11 @@ module _ (a e : ℕ) (low : 12 ≤ e) (up : e ≤ 64) where
           (a / 2 ^ 12, coded_is ∙ rw f (add-zero _))
 
   -- every size from 4096 bytes to 2 ^ 64 is decoded as it was encoded
-  pub coded_size_lem : size_of (coded a e) (ltb 12 e) ≡ Exponent e
+  pub coded_size_lem : size_of (coded a e) (ltb 12 e) ≡ Some e
   unfolding size_of
   coded_size_lem = go (dec_le 13 e)
     where
-      go : Dec (13 ≤ e) → size_of (coded a e) (ltb 12 e) ≡ Exponent e
+      go : Dec (13 ≤ e) → size_of (coded a e) (ltb 12 e) ≡ Some e
       go (yes h) =
           let n = e - 13 in
           let f : n + 13 ≡ e = omega arith in
@@ -63,11 +63,11 @@ module _ (a e : ℕ) (low : 12 ≤ e) (up : e ≤ 64) where
           let y = a / 2 ^ e * 2 ^ suc n + (2 ^ n - 1) in
           let c : coded a e ≡ y * 4096 = coded_is ∙ rw (f, g) at (shape n (a / 2 ^ e)) in
           let d : y * 4096 / 2 ^ 12 ≡ y = omega arith in
-          rw (lt-ltb 12 e h, c, lowest_trailing 52 12 (y * 4096), d, trailing_ones 52 n (a / 2 ^ e) (omega arith), lt-ltb (12 + n) 64 (omega arith)) (ap Exponent (omega arith))
-      go (no h) = let f : e ≡ 12 = omega arith in rw (le-ltb 12 e (omega arith)) (ap Exponent (sym f))
+          rw (lt-ltb 12 e h, c, lowest_trailing 52 12 (y * 4096), d, trailing_ones 52 n (a / 2 ^ e) (omega arith), lt-ltb (12 + n) 64 (omega arith)) (ap Some (omega arith))
+      go (no h) = let f : e ≡ 12 = omega arith in rw (le-ltb 12 e (omega arith)) (ap Some (sym f))
 
   -- and so is the region
-  pub coded_base : base_of (coded a e) (Exponent e) ≡ (region_of a e).first
+  pub coded_base : base_of (coded a e) (Some e) ≡ (region_of a e).first
   unfolding region_of
   coded_base =
       let small : 2 ^ (e - 1) - 4096 < 2 ^ e = omega (arith, pow_mono {i = e - 1} {j = e} (omega arith), pow_pos e) in
@@ -118,7 +118,7 @@ region_of_page a e low up =
 -- a translation of an aligned region is decoded as it was encoded
 module _ (base e : ℕ) (n u w r : Bool) (low : 12 ≤ e) (up : e ≤ 64) (aligned : (region_of base e).first ≡ base) where
   abbrev given : Translation
-  given = record { base = base; size = Exponent e; n = n; u = u; w = w; r = r }
+  given = record { base = base; size = Some e; n = n; u = u; w = w; r = r }
 
   above : word_of given / 4096 * 4096 ≡ coded base e
   unfolding word_of
@@ -128,14 +128,14 @@ module _ (base e : ℕ) (n u w r : Bool) (low : 12 ≤ e) (up : e ≤ 64) (align
   unfolding word_of
   s_bit = let p = coded_page base e low up in rw p.1 (each_flag p.0 (ltb 12 e) n u w r).1
 
-  word_size : size_of (word_of given) (bit (word_of given) 11) ≡ Exponent e
+  word_size : size_of (word_of given) (bit (word_of given) 11) ≡ Some e
   word_size =
       ap (size_of (word_of given)) s_bit
       ∙ sym (size_of_page (word_of given) (ltb 12 e))
       ∙ ap (λ (a : ℕ). size_of a (ltb 12 e)) above
       ∙ coded_size_lem base e low up
 
-  word_base : base_of (word_of given) (Exponent e) ≡ base
+  word_base : base_of (word_of given) (Some e) ≡ base
   word_base =
       sym (region_of_page (word_of given) e low up)
       ∙ ap (λ (a : ℕ). (region_of a e).first) above
@@ -143,7 +143,7 @@ module _ (base e : ℕ) (n u w r : Bool) (low : 12 ≤ e) (up : e ≤ 64) (align
       ∙ aligned
 
   abbrev read_flags : Translation
-  read_flags = record { base = base; size = Exponent e; n = bit (word_of given) 10; u = bit (word_of given) 2; w = bit (word_of given) 1; r = eqb (word_of given % 2) 1 }
+  read_flags = record { base = base; size = Some e; n = bit (word_of given) 10; u = bit (word_of given) 2; w = bit (word_of given) 1; r = eqb (word_of given % 2) 1 }
 
   word_flags : read_flags ≡ given
   unfolding word_of

@@ -1,4 +1,5 @@
 -- Laws of sizes and ranges.
+use Rattle.std.specs.Prelude.{None, Some}
 use mathlib.Core.Path.{◌≡◌, refl, sym, ap, ◌∙◌}
 use mathlib.Core.Bool.{Bool, true, false, cond}
 use Prim.Native.Nat.{ℕ, zero, suc, ◌+◌, ◌-◌, ◌*◌, ◌/◌, ◌%◌, ◌^◌, ◌<◌, ◌≤◌, max}
@@ -11,7 +12,6 @@ use lib.Pow.{pow-add, pow_pos, shr-shr, mod-pow-add}
 use borrow.Author.Tests.{leb-true, le-leb, ltb-true, ltb-false, eqb-true}
 use Rattle.lemmas.proofs.Cases.{by_cases, and_both, impossible}
 use Rattle.ranges.specs.declared.Range.{Range}
-use Rattle.ranges.specs.declared.Size.TheVariants.{Exponent, NoSize}
 use Rattle.ranges.specs.Size.{bit, lowest_zero, size_of}
 use Rattle.ranges.specs.Range.{region_in, region_of, rounded_of, overlaps}
 
@@ -92,29 +92,29 @@ all_ones (suc k) y e =
     go o r = rw (← add-one k, mod-pow-add y k 1, r, o, pow-add 2 k 1) (omega (arith, pow_pos k))
 
 -- S clear is 4096 bytes
-pub plain_size : (a : ℕ) → size_of a false ≡ Exponent 12
+pub plain_size : (a : ℕ) → size_of a false ≡ Some 12
 unfolding size_of
 plain_size a = refl
 
 -- a size is at least 4096 bytes and at most 2 ^ 64
-pub size_between : (a : ℕ) (s : Bool) (e : ℕ) → size_of a s ≡ Exponent e → (12 ≤ e) × (e ≤ 64)
+pub size_between : (a : ℕ) (s : Bool) (e : ℕ) → size_of a s ≡ Some e → (12 ≤ e) × (e ≤ 64)
 unfolding size_of
 size_between a false e p = let q : 12 ≡ e = cc in omega arith
 size_between a true e p = by_cases (ltb (lowest_zero 52 12 a) 64) (λ t. some t (rw t at p)) (λ t. none (rw t at p))
   where
-    some : ltb (lowest_zero 52 12 a) 64 ≡ true → Exponent (lowest_zero 52 12 a + 1) ≡ Exponent e → (12 ≤ e) × (e ≤ 64)
+    some : ltb (lowest_zero 52 12 a) 64 ≡ true → Some (lowest_zero 52 12 a + 1) ≡ Some e → (12 ≤ e) × (e ≤ 64)
     some t q = let r : lowest_zero 52 12 a + 1 ≡ e = cc in omega (arith, ltb-true (lowest_zero 52 12 a) 64 t, lowest_trailing 52 12 a)
 
-    none : NoSize ≡ Exponent e → (12 ≤ e) × (e ≤ 64)
+    none : None ≡ Some e → (12 ≤ e) × (e ≤ 64)
     none q = impossible cc
 
 -- there is no size only if S is set and bits 63:12 are all ones
-pub no_size_lem : (a : ℕ) (s : Bool) → a < 2 ^ 64 → size_of a s ≡ NoSize → (s ≡ true) × (a / 4096 ≡ 0xF_FFFF_FFFF_FFFF)
+pub no_size_lem : (a : ℕ) (s : Bool) → a < 2 ^ 64 → size_of a s ≡ None → (s ≡ true) × (a / 4096 ≡ 0xF_FFFF_FFFF_FFFF)
 unfolding size_of
 no_size_lem a false h p = impossible cc
 no_size_lem a true h p = (refl, by_cases (ltb (lowest_zero 52 12 a) 64) (λ t. some (rw t at p)) (λ t. none (ltb-false (lowest_zero 52 12 a) 64 t)))
   where
-    some : Exponent (lowest_zero 52 12 a + 1) ≡ NoSize → a / 4096 ≡ 0xF_FFFF_FFFF_FFFF
+    some : Some (lowest_zero 52 12 a + 1) ≡ None → a / 4096 ≡ 0xF_FFFF_FFFF_FFFF
     some q = impossible cc
 
     none : 64 ≤ lowest_zero 52 12 a → a / 4096 ≡ 0xF_FFFF_FFFF_FFFF

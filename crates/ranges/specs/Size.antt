@@ -1,7 +1,5 @@
 -- Sizes: the code that a translation and an Invalidate Request's body share. 01, "Sizes".
-use Rattle.std.specs.Prelude.{ℕ, zero, suc, ◌+◌, ◌-◌, ◌/◌, ◌%◌, ◌^◌, min, max, Bool, cond, ltb, eqb}
-use Rattle.ranges.specs.declared.Size.{Size}
-use Rattle.ranges.specs.declared.Size.TheVariants.{Exponent, NoSize}
+use Rattle.std.specs.Prelude.{ℕ, zero, suc, ◌+◌, ◌-◌, ◌/◌, ◌%◌, ◌^◌, min, max, Bool, cond, ltb, eqb, None, Option, Some}
 use Rattle.ranges.specs.declared.Translation.{Translation}
 use Rattle.ranges.specs.Range.{region_of}
 
@@ -15,17 +13,17 @@ lowest_zero zero b x = b
 lowest_zero (suc k) b x = cond (bit x b) (lowest_zero k (b + 1) x) b
 
 -- the lowest zero bit b encodes the size 2 ^ (b + 1); there is no size if bits 63:12 are all ones
-abbrev pub size_at : ℕ → Size
-size_at b = cond (ltb b 64) (Exponent (b + 1)) NoSize
+abbrev pub size_at : ℕ → Option ℕ
+size_at b = cond (ltb b 64) (Some (b + 1)) None
 
 -- S clear encodes 2 ^ 12 bytes; with S set, the lowest zero bit at or above 12 gives the size
-unfoldable pub size_of : ℕ → Bool → Size
-size_of a s = cond s (size_at (lowest_zero 52 12 a)) (Exponent 12)
+unfoldable pub size_of : ℕ → Bool → Option ℕ
+size_of a s = cond s (size_at (lowest_zero 52 12 a)) (Some 12)
 
 -- the address with the bits below its size cleared; 0 if there is no size
-abbrev pub base_of : ℕ → Size → ℕ
-base_of a (Exponent e) = (region_of a e).first
-base_of a NoSize = 0
+abbrev pub base_of : ℕ → Option ℕ → ℕ
+base_of a (Some e) = (region_of a e).first
+base_of a None = 0
 
 -- a translation: S in bit 11, N in 10, U in 2, W in 1, R in 0
 unfoldable pub translation_of : ℕ → Translation
@@ -51,9 +49,9 @@ unfoldable pub coded : ℕ → ℕ → ℕ
 coded a e = (region_of a (size_exponent e)).first + (2 ^ (size_exponent e - 1) - 4096)
 
 -- the address with S in bit 11, which is clear for 4096 bytes; bits 63:11 are all ones if there is no size
-abbrev pub coded_size : ℕ → Size → ℕ
-coded_size a (Exponent e) = coded a e + cond (ltb 12 e) 2048 0
-coded_size a NoSize = 2 ^ 64 - 2048
+abbrev pub coded_size : ℕ → Option ℕ → ℕ
+coded_size a (Some e) = coded a e + cond (ltb 12 e) 2048 0
+coded_size a None = 2 ^ 64 - 2048
 
 -- a translation as a number of eight bytes
 unfoldable pub word_of : Translation → ℕ

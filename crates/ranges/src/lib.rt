@@ -7,12 +7,6 @@ ghost use Rattle.ranges.specs.Size.{lowest_zero, size_at, size_of, base_of, tran
 ghost use Rattle.ranges.specs.Range.{unit_exponent, unit_bytes, region_of, rounded_of, range_from, units_from, relocated, overlaps};
 
 #[derive(Clone, Copy)]
-pub enum Size {
-    Exponent(u32),
-    NoSize,
-}
-
-#[derive(Clone, Copy)]
 pub struct Range {
     pub first: u64,
     pub last: u64,
@@ -22,7 +16,7 @@ pub struct Range {
 #[derive(Clone, Copy)]
 pub struct Translation {
     pub base: u64,
-    pub size: Size,
+    pub size: Option<u32>,
     pub n: bool,
     pub u: bool,
     pub w: bool,
@@ -33,35 +27,29 @@ pub struct Translation {
 fn lowest_zero(x: u64) -> u32
     ensures { (result ≡ lowest_zero 52 12 x) × (result ≤ 64) }
 {
-    let mut b: u32 = 12;
-    while b < 64 {
-        if (x >> b) % 2 == 1 {
-            b += 1;
-        } else {
+    for b in 12..64 {
+        if (x >> b) % 2 != 1 {
             return b;
         }
     }
-    b
+    64
 }
 
-fn size_at(b: u32) -> Size
+fn size_at(b: u32) -> Option<u32>
     ensures { result ≡ size_at b }
 {
-    if b < 64 {
-        Size::Exponent(b + 1)
-    } else {
-        Size::NoSize
-    }
+    if b < 64 { Some(b + 1) } else { None }
 }
 
 // The size that an address and its S bit encode.
-pub fn size_of(address: u64, sized: bool) -> Size
+#[tactic(auto, using(crate::proofs::Laws::plain_size), unfolding(crate::specs::Size::size_of))]
+pub fn size_of(address: u64, sized: bool) -> Option<u32>
     ensures { result ≡ size_of address sized }
 {
     if sized {
         size_at(lowest_zero(address))
     } else {
-        Size::Exponent(12)
+        Some(12)
     }
 }
 
@@ -79,7 +67,7 @@ pub fn region(address: u64, exponent: u32) -> Range
     } else {
         Range {
             first: 0,
-            last: 0xFFFF_FFFF_FFFF_FFFF,
+            last: u64::MAX,
         }
     }
 }
@@ -109,17 +97,12 @@ pub fn region_number(address: u64, exponent: u32) -> u64
     }
 }
 
-fn larger(a: u32, b: u32) -> u32
-    ensures { result ≡ max a b }
-{
-    if a < b { b } else { a }
-}
-
 // The region of an address, rounded up to a unit: the larger of the two exponents counts.
+#[tactic(auto, unfolding(crate::specs::Range::rounded_of))]
 pub fn rounded(address: u64, exponent: u32, unit: u32) -> Range
     ensures { result ≡ rounded_of address exponent unit }
 {
-    region(address, larger(exponent, unit))
+    region(address, exponent.max(unit))
 }
 
 // The range of `rest` + 1 bytes from `first` on, cut off at the top of the address space.
@@ -127,19 +110,15 @@ pub fn rounded(address: u64, exponent: u32, unit: u32) -> Range
 pub fn range_from(first: u64, rest: u64) -> Range
     ensures { result ≡ range_from first rest }
 {
-    let top: u64 = 0xFFFF_FFFF_FFFF_FFFF;
-    if top - first < rest {
-        Range { first, last: top }
-    } else {
-        Range {
-            first,
-            last: first + rest,
-        }
+    Range {
+        first,
+        last: first.saturating_add(rest),
     }
 }
 
 // The range of the unit that holds an address and the `further` units after it.
 // `further` counts modulo 16.
+#[tactic(auto, unfolding(crate::specs::Range::units_from))]
 pub fn units_from(address: u64, further: u8, stu: u8) -> Range
     ensures { result ≡ units_from address further stu }
 {
@@ -150,6 +129,7 @@ pub fn units_from(address: u64, further: u8, stu: u8) -> Range
 }
 
 // Moves an address into the region of `base`: the offset in its own region stays the same.
+#[tactic(auto, using(crate::proofs::Units::region_first, crate::proofs::Units::relocated_lt), unfolding(crate::specs::Range::relocated))]
 pub fn relocate(base: u64, address: u64, exponent: u32) -> u64
     ensures { result ≡ relocated base address exponent }
 {
@@ -162,23 +142,18 @@ pub fn relocate(base: u64, address: u64, exponent: u32) -> u64
 pub fn overlaps(a: Range, b: Range) -> bool
     ensures { result ≡ overlaps a b }
 {
-    if a.first <= b.last {
-        b.first <= a.last
-    } else {
-        false
-    }
+    a.first <= b.last && b.first <= a.last
 }
 
-fn base_of(address: u64, size: Size) -> u64
+// 0 where there is no size, as `translation_of` has it.
+fn base_of(address: u64, size: Option<u32>) -> u64
     ensures { result ≡ base_of address size }
 {
-    match size {
-        Size::Exponent(e) => region(address, e).first,
-        Size::NoSize => 0,
-    }
+    size.map_or(0, |e| region(address, e).first)
 }
 
 // Decodes an 8-byte translation.
+#[tactic(auto, unfolding(crate::specs::Size::translation_of))]
 pub fn translation_of(word: u64) -> Translation
     ensures { result ≡ translation_of word }
 {
@@ -197,10 +172,7 @@ pub fn translation_of(word: u64) -> Translation
 fn size_exponent(exponent: u32) -> u32
     ensures { (result ≡ size_exponent exponent) × (12 ≤ result) × (result ≤ 64) }
 {
-    if exponent < 12 {
-        return 12;
-    }
-    if exponent < 64 { exponent } else { 64 }
+    exponent.min(64).max(12)
 }
 
 // Ones from bit 12 up to bit exponent - 2.
@@ -216,6 +188,7 @@ fn ones_below(exponent: u32) -> u64
 }
 
 // The address that encodes the region of 2^exponent bytes which holds an address.
+#[tactic(auto, using(crate::proofs::Codes::coded_le), unfolding(crate::specs::Size::coded))]
 pub fn coded(address: u64, exponent: u32) -> u64
     ensures { (result ≡ coded address exponent) × (result ≤ 0xFFFF_FFFF_FFFF_F000) }
 {
@@ -223,22 +196,24 @@ pub fn coded(address: u64, exponent: u32) -> u64
     region(address, e).first + ones_below(e)
 }
 
+// `u64::from(set) * value` at each of the five uses is no plainer.
 fn flag(set: bool, value: u64) -> u64
     ensures { (result ≡ cond set value 0) × (result ≤ value) }
 {
     if set { value } else { 0 }
 }
 
-fn coded_size(address: u64, size: Size) -> u64
+fn coded_size(address: u64, size: Option<u32>) -> u64
     ensures { (result ≡ coded_size address size) × (result ≤ 0xFFFF_FFFF_FFFF_F800) }
 {
     match size {
-        Size::Exponent(e) => coded(address, e) + flag(12 < e, 2048),
-        Size::NoSize => 0xFFFF_FFFF_FFFF_F800,
+        Some(e) => coded(address, e) + flag(12 < e, 2048),
+        None => 0xFFFF_FFFF_FFFF_F800,
     }
 }
 
 // Encodes an 8-byte translation.
+#[tactic(auto, unfolding(crate::specs::Size::word_of))]
 pub fn word_of(t: Translation) -> u64
     ensures { result ≡ word_of t }
 {

@@ -4,34 +4,25 @@ ghost use Rattle.std.specs.Prelude.{◌≡◌};
 ghost use Rattle.packet.specs.Forms.{choose, packet_length};
 ghost use Rattle.packet.specs.Kinds.{well_formed_mem, well_formed_read_request, well_formed64, well_formed};
 
-use packet::{Choice, Form, Frame, byte_enables, dword_count};
+use packet::{Form, Frame, byte_enables, dword_count};
 
 // The form that byte 0 and byte 7 select.
 #[tactic(auto, using(lemmas::proofs::Cases::cases), unfolding(packet::specs::Forms::choose))]
-pub(crate) fn choice(byte0: u8, byte7: u8) -> Choice
+pub(crate) fn choice(byte0: u8, byte7: u8) -> Option<Form>
     ensures { result ≡ choose byte0 byte7 }
 {
-    match byte0 {
-        0x00 => Choice::Listed(Form::Mrd32),
-        0x20 => Choice::Listed(Form::Mrd64),
-        0x40 => Choice::Listed(Form::Mwr32),
-        0x60 => Choice::Listed(Form::Mwr64),
-        0x0A => Choice::Listed(Form::CplNoData),
-        0x4A => Choice::Listed(Form::CplData),
-        0x72 => match byte7 {
-            0x01 => Choice::Listed(Form::InvReq),
-            _ => Choice::Unlisted,
-        },
-        0x32 => match byte7 {
-            0x02 => Choice::Listed(Form::InvCpl),
-            0x05 => Choice::Listed(Form::PrgResp),
-            _ => Choice::Unlisted,
-        },
-        0x30 => match byte7 {
-            0x04 => Choice::Listed(Form::PageReq),
-            _ => Choice::Unlisted,
-        },
-        _ => Choice::Unlisted,
+    match (byte0, byte7) {
+        (0x00, _) => Some(Form::Mrd32),
+        (0x20, _) => Some(Form::Mrd64),
+        (0x40, _) => Some(Form::Mwr32),
+        (0x60, _) => Some(Form::Mwr64),
+        (0x0A, _) => Some(Form::CplNoData),
+        (0x4A, _) => Some(Form::CplData),
+        (0x72, 0x01) => Some(Form::InvReq),
+        (0x32, 0x02) => Some(Form::InvCpl),
+        (0x32, 0x05) => Some(Form::PrgResp),
+        (0x30, 0x04) => Some(Form::PageReq),
+        _ => None,
     }
 }
 
@@ -56,11 +47,7 @@ pub(crate) fn length_of(m: Form, dwords: u16) -> usize
 fn is_well_formed_mem(f: Frame) -> bool
     ensures { result ≡ well_formed_mem f }
 {
-    if f.at % 2 == 0 {
-        f.byte7 == byte_enables(f.dwords)
-    } else {
-        false
-    }
+    f.at % 2 == 0 && f.byte7 == byte_enables(f.dwords)
 }
 
 fn is_well_formed_read_request(f: Frame) -> bool
@@ -78,7 +65,7 @@ fn is_well_formed_read_request(f: Frame) -> bool
 fn is_well_formed_64(f: Frame, rest: bool) -> bool
     ensures { result ≡ well_formed64 f rest }
 {
-    if 0 < f.dword8 { rest } else { false }
+    0 < f.dword8 && rest
 }
 
 // Does the header have only values that its form allows?

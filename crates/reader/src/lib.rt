@@ -8,24 +8,11 @@ mod nums;
 mod order;
 
 ghost use Rattle.std.specs.Prelude.{◌≡◌, ◌≤◌, length, drop};
-ghost use Rattle.packet.specs.Frames.{attr_at, decode_common, decode_frame, dwords_at};
-ghost use Rattle.packet.specs.Reading.{read_result, reading, payload_in, qword_at};
+ghost use Rattle.packet.specs.Frames.{decode_common, decode_frame};
+ghost use Rattle.packet.specs.Reading.{reading, payload_in, qword_at};
+ghost use Rattle.packet.specs.Numbers.{numbered};
 
-use packet::{Choice, Common, Frame, Reading, Refusal};
-
-fn dwords(b: &[u8]) -> u16
-    requires { 12 ≤ length b.now }
-    ensures { result ≡ dwords_at b.now }
-{
-    nums::at(b, 2) % 4 * 256 + nums::at(b, 3)
-}
-
-fn attr_at(b: &[u8]) -> u8
-    requires { 12 ≤ length b.now }
-    ensures { result ≡ attr_at b.now }
-{
-    b[1] / 4 % 2 * 4 + b[2] / 16 % 4
-}
+use packet::{Common, Frame, Packet, Refusal};
 
 fn decode_common(b: &[u8]) -> Common
     requires { 12 ≤ length b.now }
@@ -33,7 +20,7 @@ fn decode_common(b: &[u8]) -> Common
 {
     Common {
         tc: b[1] / 16 % 8,
-        attr: attr_at(b),
+        attr: b[1] / 4 % 2 * 4 + b[2] / 16 % 4,
         marks: b[2] / 64,
         sender: nums::num16(b, 4),
     }
@@ -48,7 +35,7 @@ fn decode_frame(b: &[u8]) -> Frame
         byte0: b[0],
         common: decode_common(b),
         at: b[2] / 4 % 4,
-        dwords: dwords(b),
+        dwords: u16::from(b[2]) % 4 * 256 + u16::from(b[3]),
         byte6: b[6],
         byte7: b[7],
         dword8: nums::num32(b, 8),
@@ -59,27 +46,22 @@ fn decode_frame(b: &[u8]) -> Frame
 
 // Reads a packet, or says with which refusal it is rejected.
 #[tactic(auto, using(lemmas::proofs::Cases::cases), unfolding(packet::specs::Reading::reading))]
-pub fn read_packet(b: &[u8]) -> Reading
-    ensures { read_result result ≡ reading b.now }
+pub fn read_packet(b: &[u8]) -> Result<Packet, Refusal>
+    ensures { numbered result ≡ reading b.now }
 {
-    if b.len() < 12 {
-        return Reading::Refused(Refusal::BadLength);
-    }
-    if 144 < b.len() {
-        return Reading::Refused(Refusal::BadLength);
+    if b.len() < 12 || 144 < b.len() {
+        return Err(Refusal::BadLength);
     }
     let f = decode_frame(b);
-    match forms::choice(f.byte0, f.byte7) {
-        Choice::Listed(m) => order::read_form(m, f, b.len()),
-        Choice::Unlisted => Reading::Refused(Refusal::UnsupportedKind),
-    }
+    let m = forms::choice(f.byte0, f.byte7).ok_or(Refusal::UnsupportedKind)?;
+    order::read_form(m, f, b.len())
 }
 
 // The bytes of a packet from byte n on, without a copy. Empty if the packet is shorter.
 pub fn part_from(b: &[u8], n: usize) -> &[u8]
     ensures { result.now ≡ drop n b.now }
 {
-    if n <= b.len() { &b[n..] } else { &b[..0] }
+    b.get(n..).unwrap_or(&[])
 }
 
 // The payload of a readable packet, without a copy.
@@ -88,15 +70,15 @@ pub fn payload(b: &[u8]) -> &[u8]
     ensures { result.now ≡ payload_in b.now }
 {
     if b.len() < 12 {
-        return &b[..0];
+        return &[];
     }
     match forms::choice(b[0], b[7]) {
-        Choice::Listed(m) => part_from(b, packet::payload_offset(m)),
-        Choice::Unlisted => &b[..0],
+        Some(m) => part_from(b, packet::payload_offset(m)),
+        None => &[],
     }
 }
 
-// QWORD k of a payload, or 0 past the last whole one.
+// QWORD k of a payload, or 0 past the last whole one, as `qword_at` has it.
 #[tactic(auto, using(lemmas::proofs::Cases::cases), unfolding(packet::specs::Reading::qword_at))]
 pub fn qword(payload: &[u8], k: usize) -> u64
     ensures { result ≡ qword_at payload.now k }

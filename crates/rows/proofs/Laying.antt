@@ -1,20 +1,21 @@
 -- One text written after another.
+use Rattle.std.specs.Prelude.{Result}
 use mathlib.Core.Path.{◌≡◌, refl, sym, ap, ◌∙◌}
 use mathlib.Core.Bool.{Bool, true, false, cond}
 use lib.Dec.{ltb}
 use mathlib.Core.List.{List, [], ◌∷◌, ◌++◌, append_assoc, append-nil}
-use Prim.Native.Nat.{ℕ, ◌+◌, ◌-◌, ◌≤◌, ◌<◌, zero-le}
+use Prim.Native.Nat.{ℕ, ◌+◌, ◌-◌, ◌≤◌, zero-le}
 use native.Mathlib.Nat.{add-zero, zero-add, add_assoc, le_refl}
-use native.Mathlib.Numerals.{add-one}
 use native.Mathlib.Omega.{arith}
-use lib.ListN.{length, take, drop, set, get_or, length-append, length-drop, take-append-drop, drop_of_length-le}
-use lib.Seq.{length-take-le, take_at, drop_at, drop-drop, append_snoc, set_split, paste, paste-suc, take-length}
+use lib.ListN.{length, take, drop, length-append, length-drop, take-append-drop, drop_of_length-le}
+use lib.Seq.{length-take-le, take_at, drop_at, drop-drop}
 use borrow.Author.Tests.{le-ltb}
 use Rattle.packet.specs.declared.Packet.{Packet}
-use Rattle.packet.specs.Numbers.{Result}
 use Rattle.text.specs.Digits.{decimal}
 use Rattle.rows.specs.Rows.{at_start, answer_text, out_line, row_in}
 use Rattle.rows.specs.Places.{lay, Laid}
+use Rattle.rows.specs.declared.put.Row.{Row}
+use Rattle.rows.specs.Row.{Puts}
 
 lay_lay : (at : ℕ) (s t l : List ℕ) → at ≤ length l → lay (at + length s) t (lay at s l) ≡ lay at (s ++ t) l
 lay_lay at s t l h =
@@ -35,40 +36,30 @@ then at s t l n m e r h p q = (
   q.1 ∙ (λ k. lay (p.0 k) t (p.1 k)) ∙ lay_lay at s t l h,
 )
 
--- a byte between two texts
-pub then_byte : (at : ℕ) (s : List ℕ) (b : ℕ) (t l : List ℕ) (n : ℕ) (m : List ℕ) (o : ℕ) (u : List ℕ) (e : ℕ) (r : List ℕ)
-    → at ≤ length l
-    → Laid at s l n m → Laid n (b ∷ []) m o u → Laid o t u e r → Laid at (s ++ b ∷ t) l e r
-then_byte at s b t l n m o u e r h p q w =
-    rw (← append_snoc s b t) (then at (s ++ b ∷ []) t l o u e r h (then at s (b ∷ []) l n m o u h p q) w)
+-- three texts, one after another, which are w
+module _ (s t u w : List ℕ) (e : s ++ t ++ u ≡ w) where
+  laid_three : (at : ℕ) (out : List ℕ) (a b c : Row) → at ≤ length out → Laid at s out a.at a.out.now → Puts t a b → Puts u b c
+      → Laid at w out c.at c.out.now
+  laid_three at out a b c h p q r =
+      let front = then at s t out a.at a.out.now b.at b.out.now h p q.1 in
+      rw e at (then at (s ++ t) u out b.at b.out.now c.at c.out.now h front r.1)
 
-pub lay_byte : (at b : ℕ) (l : List ℕ) → at < length l → set l at b ≡ lay at (b ∷ []) l
-lay_byte at b l h = set_split l at b h ∙ rw (add-one, append_snoc)
-
--- a turn of a copy loop, and its end
-pub copied : (d : List ℕ) (at : ℕ) (s out : List ℕ) (i : ℕ) → at + length s ≤ length d → i < length s
-    → out ≡ paste d at s i
-    → set out (at + i) (get_or s i 0) ≡ paste d at s (i + 1)
-copied d at s out i room h e = rw (add-one, e) (paste-suc d at s i 0 (omega arith) h)
-
-pub all_copied : (d : List ℕ) (at : ℕ) (s out : List ℕ) (i : ℕ) → i ≤ length s → length s ≤ i → out ≡ paste d at s i
-    → Laid at s d (at + i) out
-all_copied d at s out i h g e =
-    let n : i ≡ length s = omega arith in
-    (rw n, e ∙ rw (n, take-length))
+  pub put_three : (a b c d : Row) → a.at ≤ length a.out.now → Puts s a b → Puts t b c → Puts u c d → Puts w a d
+  put_three a b c d h p q r = (r.0 ∙ q.0 ∙ p.0, laid_three a.at a.out.now b c d h p.1 q r)
 
 pub at_start_lem : (s l : List ℕ) (n : ℕ) (m : List ℕ) → Laid 0 s l n m → (n, m) ≡ at_start s l
 at_start_lem s l n m p = (λ k. (p.0 k, p.1 k)) ∙ rw zero-add
 
 -- a whole line: number, tab, answer, line feed
-pub row : (k : ℕ) (a : Result Packet) (out : List ℕ) (n : ℕ) (l : List ℕ) (b : ℕ) (m : List ℕ) (c : ℕ) (u : List ℕ) (e : ℕ) (v : List ℕ)
-    → 64 ≤ length out
-    → Laid 0 (decimal k) out n l → Laid n (9 ∷ []) l b m → Laid b (answer_text a) m c u → Laid c (10 ∷ []) u e v
-    → (e, v) ≡ row_in (out_line k a) out
+pub row : (k : ℕ) (x : Result Packet ℕ) (out : List ℕ) (a b c d : Row) → 64 ≤ length out
+    → Laid 0 (decimal k) out a.at a.out.now → Puts (9 ∷ []) a b → Puts (answer_text x) b c → Puts (10 ∷ []) c d
+    → (d.at, d.out.now) ≡ row_in (out_line k x) out
 unfolding row_in out_line
-row k a out n l b m c u e v room p q r s =
-    let front = then_byte 0 (decimal k) 9 (answer_text a) out n l b m c u zero-le p q r in
-    rw (le-ltb (length out) 64 room) (at_start_lem (decimal k ++ 9 ∷ answer_text a ++ 10 ∷ []) out e v (then 0 (decimal k ++ 9 ∷ answer_text a) (10 ∷ []) out c u e v zero-le front s))
+row k x out a b c d room p q r s =
+    let line = decimal k ++ 9 ∷ answer_text x ++ 10 ∷ [] in
+    let tab = then 0 (decimal k) (9 ∷ []) out a.at a.out.now b.at b.out.now zero-le p q.1 in
+    let all = laid_three (decimal k ++ 9 ∷ []) (answer_text x) (10 ∷ []) line (simp append_assoc) 0 out b c d zero-le tab r s in
+    rw (le-ltb (length out) 64 room) (at_start_lem line out d.at d.out.now all)
 
 pub nothing_laid : (at : ℕ) (l : List ℕ) → Laid at [] l at l
 nothing_laid at l = (sym (add-zero at), sym (rw (append-nil, add-zero) (take-append-drop at l)))

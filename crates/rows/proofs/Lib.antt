@@ -1,4 +1,3 @@
 pub mod Short
 pub mod Laying
-pub mod Numerals
 pub mod Attr

@@ -1,4 +1,5 @@
 -- No output line has more than 64 bytes.
+use Rattle.std.specs.Prelude.{Err, Ok, Result}
 use Prim.Native.Nat.{ℕ, ◌≤◌}
 use mathlib.Core.List.{[], ◌∷◌, ◌++◌}
 use native.Mathlib.Omega.{arith}
@@ -9,7 +10,6 @@ use Rattle.packet.specs.declared.Access.{Access}
 use Rattle.packet.specs.declared.Access.TheVariants.{Read, Write}
 use Rattle.packet.specs.declared.Body.{Body}
 use Rattle.packet.specs.declared.Body.TheVariants.{Tr, Mem, Cpl, Inv, Ic, Prq, Prs}
-use Rattle.packet.specs.Numbers.{Result, ok, refusal}
 use Rattle.text.specs.Digits.{hex4, decimal}
 use Rattle.text.proofs.Numerals.{decimal_short}
 use Rattle.rows.specs.Rows.{kind_text, access_text, label_text, answer_text, out_line}
@@ -36,19 +36,19 @@ label_short (Ic i) = lit≤ tt
 label_short (Prq q) = decimal_short q.index.0
 label_short (Prs s) = decimal_short s.index.0
 
-pub answer_short : (a : Result Packet) → length (answer_text a) ≤ 29
-answer_short (ok p) =
+pub answer_short : (a : Result Packet ℕ) → length (answer_text a) ≤ 29
+answer_short (Ok p) =
     let k = kind_short p.body in
     let l = label_short p.body in
     let e = length-append (kind_text p.body ++ 9 ∷ hex4 p.head.sender) (9 ∷ label_text p.body) in
     let f = length-append (kind_text p.body) (9 ∷ hex4 p.head.sender) in
     omega arith
-answer_short (refusal n) =
+answer_short (Err n) =
     let d = decimal_short n in
     let e = length-append (decimal n) (9 ∷ 45 ∷ []) in
     omega arith
 
-pub out_line_short : (k : ℕ) (a : Result Packet) → length (out_line k a) ≤ 64
+pub out_line_short : (k : ℕ) (a : Result Packet ℕ) → length (out_line k a) ≤ 64
 unfolding out_line
 out_line_short k a =
     let d = decimal_short k in

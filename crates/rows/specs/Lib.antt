@@ -1,3 +1,3 @@
 pub mod Rows
-pub mod Words
+pub mod Row
 pub mod Places

@@ -1,11 +1,10 @@
 -- The output line of a packet or of a refusal: number, kind, sender and label, separated by tabs. 01, "Listing program".
-use Rattle.std.specs.Prelude.{ℕ, cond, List, [], ◌∷◌, ◌++◌, ltb, length, drop}
+use Rattle.std.specs.Prelude.{ℕ, cond, List, [], ◌∷◌, ◌++◌, ltb, length, drop, Err, Ok, Result}
 use Rattle.packet.specs.declared.Packet.{Packet}
 use Rattle.packet.specs.declared.Access.{Access}
 use Rattle.packet.specs.declared.Access.TheVariants.{Read, Write}
 use Rattle.packet.specs.declared.Body.{Body}
 use Rattle.packet.specs.declared.Body.TheVariants.{Tr, Mem, Cpl, Inv, Ic, Prq, Prs}
-use Rattle.packet.specs.Numbers.{Result, ok, refusal}
 use Rattle.text.specs.Digits.{hex4, hex8, decimal}
 
 -- the letters of a kind: TR, MEM, ...
@@ -34,12 +33,12 @@ label_text (Prq q) = decimal q.index.0
 label_text (Prs s) = decimal s.index.0
 
 -- kind, sender and label; or BAD, the number and "-"
-abbrev pub answer_text : Result Packet → List ℕ
-answer_text (ok p) = kind_text p.body ++ 9 ∷ hex4 p.head.sender ++ 9 ∷ label_text p.body
-answer_text (refusal n) = 66 ∷ 65 ∷ 68 ∷ 9 ∷ decimal n ++ 9 ∷ 45 ∷ []
+abbrev pub answer_text : Result Packet ℕ → List ℕ
+answer_text (Ok p) = kind_text p.body ++ 9 ∷ hex4 p.head.sender ++ 9 ∷ label_text p.body
+answer_text (Err n) = 66 ∷ 65 ∷ 68 ∷ 9 ∷ decimal n ++ 9 ∷ 45 ∷ []
 
 -- the output line of line k, with this content
-unfoldable pub out_line : ℕ → Result Packet → List ℕ
+unfoldable pub out_line : ℕ → Result Packet ℕ → List ℕ
 out_line k a = decimal k ++ 9 ∷ answer_text a ++ 10 ∷ []
 
 -- the length of a text, and the text at the start of a buffer

@@ -2,37 +2,29 @@
 #![tactic(auto)]
 
 mod put;
-mod words;
 
 ghost use Rattle.std.specs.Prelude.{◌≡◌};
-ghost use Rattle.packet.specs.Numbers.{ok, refusal};
 ghost use Rattle.rows.specs.Rows.{out_line, row_in};
 
 use packet::Packet;
+use put::Row;
 
-// Writes the output line of line k, which holds packet p, to the start of `out` and returns its
-// length. An `out` of fewer than 64 bytes is left unchanged.
-pub fn packet_row(k: u64, p: Packet, out: &mut [u8]) -> usize
-    ensures { (result, out.new) ≡ row_in (out_line k (ok p)) out.old }
+// Writes the output line of line k, which holds a packet or is refused with a number, to the start of
+// `out` and returns its length. An `out` of fewer than 64 bytes is left unchanged. Any byte is taken
+// as a number, not only those of refusals.
+pub fn put_row(k: u64, answer: Result<Packet, u8>, out: &mut [u8]) -> usize
+    ensures { (result, out.new) ≡ row_in (out_line k answer) out.old }
 {
     if out.len() < 64 {
         return 0;
     }
-    let a = put::decimal(out, 0, k);
-    let b = put::byte(out, a, b'\t');
-    let c = put::packet(out, b, p);
-    put::byte(out, c, b'\n')
-}
-
-// Writes the output line of line k, which is refused with number n, in the same way.
-pub fn bad_row(k: u64, n: u8, out: &mut [u8]) -> usize
-    ensures { (result, out.new) ≡ row_in (out_line k (refusal n)) out.old }
-{
-    if out.len() < 64 {
-        return 0;
+    let mut row = Row { out, at: 0 };
+    row.decimal(k);
+    row.byte(b'\t');
+    match answer {
+        Ok(p) => row.packet(p),
+        Err(n) => row.bad(n),
     }
-    let a = put::decimal(out, 0, k);
-    let b = put::byte(out, a, b'\t');
-    let c = put::bad(out, b, n);
-    put::byte(out, c, b'\n')
+    row.byte(b'\n');
+    row.at
 }

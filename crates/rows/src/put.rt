@@ -1,112 +1,112 @@
-// Writes text into a buffer at an index. Each function returns the index after the text.
-ghost use Rattle.std.specs.Prelude.{[], ◌∷◌, ◌+◌, ◌≤◌, ◌<◌, length};
-ghost use Rattle.text.specs.Digits.{decimal, hex4, hex8};
-ghost use Rattle.packet.specs.Numbers.{ok, refusal};
-ghost use Rattle.rows.specs.Rows.{answer_text};
-ghost use Rattle.rows.specs.Words.{letters_text, printed_label};
-ghost use Rattle.rows.specs.Places.{Laid};
+// Writes the parts of an output line.
+ghost use Rattle.std.specs.Prelude.{[], ◌∷◌, ◌++◌, ◌+◌, ◌≤◌, ◌<◌, length, Ok, Err};
+ghost use Rattle.text.specs.Digits.{decimal};
+ghost use Rattle.rows.specs.Rows.{kind_text, label_text, answer_text};
+ghost use Rattle.rows.specs.Row.{Puts};
 
-use crate::words;
-use crate::words::{Label, Letters};
-use packet::Packet;
+use packet::{Access, Body, Packet};
 
-// One byte.
-pub(crate) fn byte(out: &mut [u8], at: usize, b: u8) -> usize
-    requires { at < length out.old }
-    ensures { Laid at (b ∷ []) out.old result out.new }
-{
-    out[at] = b;
-    at + 1
+// A lent buffer, and the index after what was written to it.
+#[derive(Drop)]
+pub(crate) struct Row<'a> {
+    pub(crate) out: &'a mut [u8],
+    pub(crate) at: usize,
 }
 
-fn text(out: &mut [u8], at: usize, src: &[u8]) -> usize
-    requires { at + length src.now ≤ length out.old }
-    ensures { Laid at src.now out.old result out.new }
-{
-    let mut i = 0;
-    while i < src.len() {
-        out[at + i] = src[i];
-        i += 1;
+impl<'a> Row<'a> {
+    // One byte.
+    pub(crate) fn byte(&mut self, b: u8)
+        requires { self.old.at < length self.old.out.now }
+        ensures { Puts (b ∷ []) self.old self.new }
+    {
+        self.out[self.at] = b;
+        self.at += 1;
     }
-    at + i
-}
 
-// A number in decimal.
-pub(crate) fn decimal(out: &mut [u8], at: usize, n: u64) -> usize
-    requires { at + 20 ≤ length out.old }
-    ensures laid { Laid at (decimal n) out.old result out.new }
-    ensures upper_bound { result ≤ at + 20 }
-{
-    let numeral = text::decimal(n);
-    let start = numeral.start;
-    let digits = numeral.digits;
-    text(out, at, &digits[start..])
-}
-
-fn sender(out: &mut [u8], at: usize, n: u16) -> usize
-    requires { at + 4 ≤ length out.old }
-    ensures { Laid at (hex4 n) out.old result out.new }
-{
-    let digits = text::hex4(n);
-    text(out, at, &digits)
-}
-
-fn vector(out: &mut [u8], at: usize, n: u32) -> usize
-    requires { at + 8 ≤ length out.old }
-    ensures { Laid at (hex8 n) out.old result out.new }
-{
-    let digits = text::hex8(n);
-    text(out, at, &digits)
-}
-
-#[tactic(auto, unfolding(crate::specs::Words::letters_text))]
-fn kind(out: &mut [u8], at: usize, k: Letters) -> usize
-    requires { at + 3 ≤ length out.old }
-    ensures laid { Laid at (letters_text k) out.old result out.new }
-    ensures upper_bound { result ≤ at + 3 }
-{
-    let a = byte(out, at, k.first);
-    let b = byte(out, a, k.second);
-    if k.third == 0 {
-        b
-    } else {
-        byte(out, b, k.third)
+    fn text(&mut self, src: &[u8])
+        requires { self.old.at + length src.now ≤ length self.old.out.now }
+        ensures { Puts src.now self.old self.new }
+    {
+        let end = self.at + src.len();
+        self.out[self.at..end].copy_from_slice(src);
+        self.at = end;
     }
-}
 
-fn label(out: &mut [u8], at: usize, l: Label) -> usize
-    requires { at + 20 ≤ length out.old }
-    ensures laid { Laid at (printed_label l) out.old result out.new }
-    ensures upper_bound { result ≤ at + 20 }
-{
-    match l {
-        Label::Number(n) => decimal(out, at, n),
-        Label::Vector(v) => vector(out, at, v),
-        Label::Dash => byte(out, at, b'-'),
+    // A number in decimal.
+    #[tactic(auto, using(text::proofs::Numerals::numeral_digits, text::proofs::Numerals::decimal_short))]
+    pub(crate) fn decimal(&mut self, n: u64)
+        requires { self.old.at + 20 ≤ length self.old.out.now }
+        ensures laid { Puts (decimal n) self.old self.new }
+        ensures upper_bound { self.new.at ≤ self.old.at + 20 }
+    {
+        self.text(text::decimal(n).as_bytes());
     }
-}
 
-// Kind, sender and label of a packet.
-pub(crate) fn packet(out: &mut [u8], at: usize, p: Packet) -> usize
-    requires { at + 29 ≤ length out.old }
-    ensures laid { Laid at (answer_text (ok p)) out.old result out.new }
-    ensures upper_bound { result ≤ at + 29 }
-{
-    let body = p.body;
-    let a = kind(out, at, words::letters_of(body));
-    let b = byte(out, a, b'\t');
-    let c = sender(out, b, p.head.sender);
-    let d = byte(out, c, b'\t');
-    label(out, d, words::label_of(body))
-}
+    // A text and the tab after it.
+    fn field(&mut self, src: &[u8])
+        requires { self.old.at + length src.now < length self.old.out.now }
+        ensures laid { Puts (src.now ++ 9 ∷ []) self.old self.new }
+        ensures next { self.new.at ≤ self.old.at + length src.now + 1 }
+    {
+        self.text(src);
+        self.byte(b'\t');
+    }
 
-// A refusal: BAD, its number and a dash.
-pub(crate) fn bad(out: &mut [u8], at: usize, n: u8) -> usize
-    requires { at + 29 ≤ length out.old }
-    ensures laid { Laid at (answer_text (refusal n)) out.old result out.new }
-    ensures upper_bound { result ≤ at + 29 }
-{
-    let a = text(out, at, b"BAD\t");
-    let b = decimal(out, a, n as u64);
-    text(out, b, b"\t-")
+    // The word for a packet's kind.
+    fn kind(&mut self, body: Body)
+        requires { self.old.at + 4 ≤ length self.old.out.now }
+        ensures laid { Puts (kind_text body ++ 9 ∷ []) self.old self.new }
+        ensures upper_bound { self.new.at ≤ self.old.at + 4 }
+    {
+        match body {
+            Body::Tr(_) => self.field(b"TR"),
+            Body::Mem(_) => self.field(b"MEM"),
+            Body::Cpl(_) => self.field(b"CPL"),
+            Body::Inv(_) => self.field(b"INV"),
+            Body::Ic(_) => self.field(b"IC"),
+            Body::Prq(_) => self.field(b"PRQ"),
+            Body::Prs(_) => self.field(b"PRS"),
+        }
+    }
+
+    fn label(&mut self, body: Body)
+        requires { self.old.at + 20 ≤ length self.old.out.now }
+        ensures laid { Puts (label_text body) self.old self.new }
+        ensures upper_bound { self.new.at ≤ self.old.at + 20 }
+    {
+        match body {
+            Body::Tr(t) => self.decimal(u64::from(t.tag.0)),
+            Body::Mem(m) => match m.access {
+                Access::Read(tag) => self.decimal(u64::from(tag.0)),
+                Access::Write => self.byte(b'-'),
+            },
+            Body::Cpl(c) => self.decimal(u64::from(c.tag.0)),
+            Body::Inv(i) => self.decimal(u64::from(i.itag.0)),
+            Body::Ic(i) => self.text(&text::hex8(i.vector)),
+            Body::Prq(q) => self.decimal(u64::from(q.index.0)),
+            Body::Prs(s) => self.decimal(u64::from(s.index.0)),
+        }
+    }
+
+    // Kind, sender and label of a packet.
+    pub(crate) fn packet(&mut self, p: Packet)
+        requires { self.old.at + 29 ≤ length self.old.out.now }
+        ensures laid { Puts (answer_text (Ok p)) self.old self.new }
+        ensures upper_bound { self.new.at ≤ self.old.at + 29 }
+    {
+        self.kind(p.body);
+        self.field(&text::hex4(p.head.sender));
+        self.label(p.body);
+    }
+
+    // BAD, the number of a refusal and a dash.
+    pub(crate) fn bad(&mut self, n: u8)
+        requires { self.old.at + 29 ≤ length self.old.out.now }
+        ensures laid { Puts (answer_text (Err n)) self.old self.new }
+        ensures upper_bound { self.new.at ≤ self.old.at + 29 }
+    {
+        self.text(b"BAD\t");
+        self.decimal(u64::from(n));
+        self.text(b"\t-");
+    }
 }

@@ -1,19 +1,16 @@
 -- The Function's state. 01, "The Function's tables".
-use Rattle.std.specs.Prelude.{Bool, false, cond, ◌||◌, List, ℕ, eqb}
+use Rattle.std.specs.Prelude.{Bool, false, cond, ◌||◌, List, ℕ, eqb, None, Option}
 use Rattle.packet.specs.declared.Head.{Head}
 use Rattle.packet.specs.declared.Tag.{Tag}
 use Rattle.packet.specs.Kinds.{attr_zero}
 use Rattle.atc.specs.declared.Cache.{Cache}
 use Rattle.atc.specs.Cache.{blank}
 use Rattle.tags.specs.declared.TagState.{TagState}
-use Rattle.tags.specs.declared.TagRow.{TagRow}
 use Rattle.tags.specs.Tags.{all_free, set_tag}
 use Rattle.pages.specs.declared.Pages.{Pages}
 use Rattle.pages.specs.Pages.{switched_off}
 use Rattle.translations.specs.declared.Rcb.{Rcb}
 use Rattle.translations.specs.declared.Rcb.TheVariants.{B64, B128}
-use Rattle.state.specs.declared.Agent.{Agent}
-use Rattle.state.specs.declared.Agent.TheVariants.{Unknown}
 use Rattle.state.specs.declared.Function.{Function}
 
 -- every packet is sent on Traffic Class 0, with zeros in Attr (02 a)
@@ -36,7 +33,7 @@ fresh id stu rcb =
       stu = stu;
       rcb = rcb;
       enabled = false;
-      agent = Unknown;
+      agent = None;
       waiting = 0;
       cache = blank;
       tags = all_free;
@@ -44,7 +41,7 @@ fresh id stu rcb =
     }
 
 -- the Function with its parts replaced; below, with one of them replaced
-abbrev pub remade : Function → Bool → Agent → ℕ → Cache → List TagRow → Pages → Function
+abbrev pub remade : Function → Bool → Option ℕ → ℕ → Cache → List TagState → Pages → Function
 remade f enabled agent waiting cache tags pages =
     record {
       id = f.id;
@@ -61,7 +58,7 @@ remade f enabled agent waiting cache tags pages =
 abbrev pub with_enable : Function → Bool → Function
 with_enable f enabled = remade f enabled f.agent f.waiting f.cache f.tags f.pages
 
-abbrev pub with_agent : Function → Agent → Function
+abbrev pub with_agent : Function → Option ℕ → Function
 with_agent f agent = remade f f.enabled agent f.waiting f.cache f.tags f.pages
 
 abbrev pub with_waiting : Function → ℕ → Function
@@ -70,7 +67,7 @@ with_waiting f waiting = remade f f.enabled f.agent waiting f.cache f.tags f.pag
 abbrev pub with_cache : Function → Cache → Function
 with_cache f cache = remade f f.enabled f.agent f.waiting cache f.tags f.pages
 
-abbrev pub with_tags : Function → List TagRow → Function
+abbrev pub with_tags : Function → List TagState → Function
 with_tags f tags = remade f f.enabled f.agent f.waiting f.cache tags f.pages
 
 abbrev pub with_pages : Function → Pages → Function

@@ -1,23 +1,16 @@
 // The Function: its state, what its calls answer, and the calls that neither send nor receive.
 #![tactic(auto)]
 
-ghost use Rattle.std.specs.Prelude.{◌≡◌, []};
-ghost use Rattle.state.specs.State.{head_of, fresh, with_enable, with_agent, with_waiting, with_cache, with_tags, with_pages, with_tag, is_rcb, rcb_of};
-ghost use Rattle.state.specs.Answers.{refused_with, without_packet, observed, commit};
+ghost use Rattle.std.specs.Prelude.{◌≡◌, [], cond, None, Some};
+ghost use Rattle.state.specs.State.{head_of, fresh, is_rcb, rcb_of};
+ghost use Rattle.state.specs.Answers.{without_packet, observed, commit};
 ghost use Rattle.state.specs.Switches.{resetting, enabling, disabling, switching_on, switching_off, is_allocation};
 
 use atc::Cache;
 use packet::{Attr, Head, Refusal, Tag};
 use pages::{Interface, Pages};
-use tags::{TagRow, TagState};
+use tags::TagState;
 use translations::Rcb;
-
-// The requester of Invalidate Requests, known from the first accepted one on.
-#[derive(Clone, Copy)]
-pub enum Agent {
-    Unknown,
-    Known(u16),
-}
 
 // The state of the Function. `waiting` has the ITags whose Invalidate Completion is still due.
 #[derive(Clone, Copy)]
@@ -26,14 +19,14 @@ pub struct Function {
     pub stu: u8,
     pub rcb: Rcb,
     pub enabled: bool,
-    pub agent: Agent,
+    pub agent: Option<u16>,
     pub waiting: u32,
     pub cache: Cache,
-    pub tags: [TagRow; 32],
+    pub tags: [TagState; 32],
     pub pages: Pages,
 }
 
-// The answer of a call.
+// The answer of a call that is not refused.
 #[derive(Clone, Copy)]
 pub enum Answer {
     Done,
@@ -47,122 +40,36 @@ pub enum Answer {
     PayloadMore,
     PayloadLast,
     ReadFailed,
-    Refused(Refusal),
 }
 
-// The state after a call, its answer, and the length of the packet that it sent, or 0.
+// What a call did: its answer, and the length of the packet that it sent, or 0, as the contracts of
+// the calls (`without_packet`) have it.
 #[derive(Clone, Copy)]
 pub struct Effect {
-    pub state: Function,
     pub answer: Answer,
     pub sent: usize,
 }
 
-// The Function with E set or clear.
-pub fn with_enable(mut f: Function, enabled: bool) -> Function
-    ensures { result ≡ with_enable f enabled }
+// The result of a call that sends nothing.
+pub fn answered(answer: Answer) -> Result<Effect, Refusal>
+    ensures { result ≡ without_packet answer }
 {
-    f.enabled = enabled;
-    f
-}
-
-// The Function with another agent.
-pub fn with_agent(f: Function, agent: Agent) -> Function
-    ensures { result ≡ with_agent f agent }
-{
-    let rcb = f.rcb;
-    let cache = f.cache;
-    let tags = f.tags;
-    let pages = f.pages;
-    Function {
-        id: f.id,
-        stu: f.stu,
-        rcb,
-        enabled: f.enabled,
-        agent,
-        waiting: f.waiting,
-        cache,
-        tags,
-        pages,
-    }
-}
-
-// The Function with other waiting ITags.
-pub fn with_waiting(mut f: Function, waiting: u32) -> Function
-    ensures { result ≡ with_waiting f waiting }
-{
-    f.waiting = waiting;
-    f
-}
-
-// The Function with another cache.
-pub fn with_cache(mut f: Function, cache: Cache) -> Function
-    ensures { result ≡ with_cache f cache }
-{
-    f.cache = cache;
-    f
-}
-
-// The Function with other tags.
-pub fn with_tags(mut f: Function, tags: [TagRow; 32]) -> Function
-    ensures { result ≡ with_tags f tags }
-{
-    f.tags = tags;
-    f
-}
-
-// The Function with another page interface.
-pub fn with_pages(mut f: Function, pages: Pages) -> Function
-    ensures { result ≡ with_pages f pages }
-{
-    f.pages = pages;
-    f
-}
-
-// The Function with another state of one tag.
-pub fn with_tag(f: Function, t: Tag, o: TagState) -> Function
-    ensures { result ≡ with_tag f t o }
-{
-    let tags = f.tags;
-    let next = tags::set_tag(tags, t, o);
-    with_tags(f, next)
-}
-
-// The effect of a refused call: the state stays and nothing is sent.
-pub fn refused(f: Function, r: Refusal) -> Effect
-    ensures { result ≡ refused_with f r }
-{
-    answered(f, Answer::Refused(r))
-}
-
-// The effect of a call that sends nothing.
-pub fn answered(f: Function, answer: Answer) -> Effect
-    ensures { result ≡ without_packet f answer }
-{
-    Effect {
-        state: f,
-        answer,
-        sent: 0,
-    }
+    Ok(Effect { answer, sent: 0 })
 }
 
 fn fresh_function(id: u16, stu: u8, rcb: Rcb) -> Function
     ensures { result ≡ fresh id stu rcb }
 {
-    let agent = Agent::Unknown;
-    let cache = atc::new();
-    let tags = tags::all_free();
-    let pages = pages::off();
     Function {
         id,
         stu,
         rcb,
         enabled: false,
-        agent,
+        agent: None,
         waiting: 0,
-        cache,
-        tags,
-        pages,
+        cache: Cache::new(),
+        tags: tags::all_free(),
+        pages: Pages::off(),
     }
 }
 
@@ -170,20 +77,18 @@ fn fresh_function(id: u16, stu: u8, rcb: Rcb) -> Function
 pub fn new() -> Function
     ensures { result ≡ fresh 0 0 (rcb_of 64) }
 {
-    let rcb = Rcb::B64;
-    fresh_function(0, 0, rcb)
+    fresh_function(0, 0, Rcb::B64)
 }
 
-fn is_rcb(bytes: u8) -> bool
-    ensures { result ≡ is_rcb bytes }
+// The boundary of a number of bytes, if it is one.
+fn rcb_from(bytes: u8) -> Option<Rcb>
+    ensures { result ≡ cond (is_rcb bytes) (Some (rcb_of bytes)) None }
 {
-    if bytes == 64 { true } else { bytes == 128 }
-}
-
-fn rcb_of(bytes: u8) -> Rcb
-    ensures { result ≡ rcb_of bytes }
-{
-    if bytes == 128 { Rcb::B128 } else { Rcb::B64 }
+    match bytes {
+        64 => Some(Rcb::B64),
+        128 => Some(Rcb::B128),
+        _ => None,
+    }
 }
 
 // The arguments of a reset.
@@ -196,98 +101,72 @@ pub struct ResetArgs {
 
 // Resets the Function to an ID, STU and RCB.
 #[tactic(auto, using(crate::proofs::Commits::commits), unfolding(crate::specs::Switches::resetting))]
-pub fn reset(f: Function, a: ResetArgs) -> Effect
-    ensures { observed result [] ≡ commit f [] (resetting a) }
+pub fn reset(f: &mut Function, a: ResetArgs) -> Result<Effect, Refusal>
+    ensures { observed f.new result [] ≡ commit f.old [] (resetting a) }
 {
     if 31 < a.stu {
-        return refused(f, Refusal::BadArgument);
+        return Err(Refusal::BadArgument);
     }
-    if is_rcb(a.rcb) {
-        let rcb = rcb_of(a.rcb);
-        answered(fresh_function(a.id, a.stu, rcb), Answer::Done)
-    } else {
-        refused(f, Refusal::BadArgument)
-    }
+    let Some(rcb) = rcb_from(a.rcb) else {
+        return Err(Refusal::BadArgument);
+    };
+    *f = fresh_function(a.id, a.stu, rcb);
+    answered(Answer::Done)
 }
 
 // Sets E. If it was clear, the cache is emptied and outstanding Translation Requests become stale.
 #[tactic(auto, using(crate::proofs::Commits::commits), unfolding(crate::specs::Switches::enabling))]
-pub fn enable(f: Function) -> Effect
-    ensures { observed result [] ≡ commit f [] (enabling f) }
+pub fn enable(f: &mut Function) -> Result<Effect, Refusal>
+    ensures { observed f.new result [] ≡ commit f.old [] (enabling f.old) }
 {
-    if f.enabled {
-        return answered(f, Answer::Done);
+    if !f.enabled {
+        f.cache.empty();
+        tags::all_stale(&mut f.tags);
+        f.enabled = true;
     }
-    let tags = f.tags;
-    let cache = f.cache;
-    let emptied = atc::empty(cache);
-    let staled = tags::all_stale(tags);
-    answered(
-        with_enable(with_cache(with_tags(f, staled), emptied), true),
-        Answer::Done,
-    )
+    answered(Answer::Done)
 }
 
 // Clears E.
 #[tactic(auto, unfolding(crate::specs::Switches::disabling))]
-pub fn disable(f: Function) -> Effect
-    ensures { observed result [] ≡ commit f [] (disabling f) }
+pub fn disable(f: &mut Function) -> Result<Effect, Refusal>
+    ensures { observed f.new result [] ≡ commit f.old [] (disabling f.old) }
 {
-    answered(with_enable(f, false), Answer::Done)
+    f.enabled = false;
+    answered(Answer::Done)
 }
 
 // Is an allocation from 1 to 512?
 fn is_allocation(allocation: u16) -> bool
     ensures { result ≡ is_allocation allocation }
 {
-    if 1 <= allocation {
-        allocation <= 512
-    } else {
-        false
-    }
-}
-
-#[tactic(auto, using(crate::proofs::Commits::commits), unfolding(crate::specs::Switches::switching_on))]
-fn switch_on(f: Function, allocation: u16) -> Effect
-    ensures { observed result [] ≡ commit f [] (switching_on f allocation Interface.Off) }
-{
-    if is_allocation(allocation) {
-        let pages = pages::on(allocation);
-        answered(with_pages(f, pages), Answer::Done)
-    } else {
-        refused(f, Refusal::BadArgument)
-    }
+    1 <= allocation && allocation <= 512
 }
 
 // Switches the page interface on, with an allocation of credits.
-#[tactic(auto, unfolding(crate::specs::Switches::switching_on))]
-pub fn pages_on(f: Function, allocation: u16) -> Effect
-    ensures { observed result [] ≡ commit f [] (switching_on f allocation f.pages.interface) }
+#[tactic(auto, using(crate::proofs::Commits::commits), unfolding(crate::specs::Switches::switching_on))]
+pub fn pages_on(f: &mut Function, allocation: u16) -> Result<Effect, Refusal>
+    ensures { observed f.new result [] ≡ commit f.old [] (switching_on f.old allocation f.old.pages.interface) }
 {
-    let pages = f.pages;
-    let interface = pages.interface;
-    match interface {
-        Interface::Off => switch_on(f, allocation),
-        Interface::On => refused(f, Refusal::BadArgument),
-        Interface::Stopped => refused(f, Refusal::PagesNotOn),
+    match f.pages.interface {
+        Interface::Off if is_allocation(allocation) => {
+            f.pages = Pages::on(allocation);
+            answered(Answer::Done)
+        }
+        Interface::Off | Interface::On => Err(Refusal::BadArgument),
+        Interface::Stopped => Err(Refusal::PagesNotOn),
     }
 }
 
 // Switches the page interface off.
 #[tactic(auto, unfolding(crate::specs::Switches::switching_off))]
-pub fn pages_off(f: Function) -> Effect
-    ensures { observed result [] ≡ commit f [] (switching_off f f.pages.interface) }
+pub fn pages_off(f: &mut Function) -> Result<Effect, Refusal>
+    ensures { observed f.new result [] ≡ commit f.old [] (switching_off f.old f.old.pages.interface) }
 {
-    let pages = f.pages;
-    let interface = pages.interface;
-    match interface {
-        Interface::Off => answered(f, Answer::Done),
-        Interface::On => {
-            let off = pages::off();
-            answered(with_pages(f, off), Answer::Done)
-        }
-        Interface::Stopped => answered(f, Answer::Done),
+    if matches!(f.pages.interface, Interface::On) {
+        f.pages = Pages::off();
     }
+    answered(Answer::Done)
 }
 
 // The head of a packet to send: Traffic Class 0, zeros in Attr, and the Function's ID.

@@ -1,8 +1,7 @@
 -- The tags. 01, "Ask", "Access", "Invalidate Request".
-use Rattle.std.specs.Prelude.{Bool, true, false, cond, ◌&&◌, List, map, ℕ, ◌-◌, ltb, get_or, set, replicate}
+use Rattle.std.specs.Prelude.{Bool, true, false, cond, ◌&&◌, List, map, ℕ, ◌-◌, ltb, get_or, set, replicate, Option, option_map}
+use Rattle.std.specs.List.{position, fold}
 use Rattle.std.specs.Int.Bits.{bit_or}
-use Rattle.lemmas.specs.First.{first_index}
-use Rattle.lemmas.specs.Fold.{fold_map}
 use Rattle.packet.specs.declared.Tag.{Tag}
 use Rattle.packet.specs.declared.ITag.{ITag}
 use Rattle.ranges.specs.declared.Range.{Range}
@@ -11,16 +10,10 @@ use Rattle.tags.specs.declared.PendingTranslation.{PendingTranslation}
 use Rattle.tags.specs.declared.PendingRead.{PendingRead}
 use Rattle.tags.specs.declared.TagState.{TagState}
 use Rattle.tags.specs.declared.TagState.TheVariants.{Free, Translate, Read}
-use Rattle.tags.specs.declared.TagRow.{TagRow}
-use Rattle.tags.specs.declared.FreeTag.{FreeTag}
-use Rattle.tags.specs.declared.FreeTag.TheVariants.{Lowest, NoneFree}
 use Rattle.tags.specs.Itags.{with_itag}
 
-abbrev pub tag_row : TagState → TagRow
-tag_row o = record { state = o }
-
-abbrev pub all_free : List TagRow
-all_free = replicate 32 (tag_row Free)
+abbrev pub all_free : List TagState
+all_free = replicate 32 Free
 
 -- a new Translation Request
 abbrev pub new_translation : ℕ → ℕ → ℕ → TagState
@@ -37,22 +30,19 @@ is_free_state Free = true
 is_free_state (Translate t) = false
 is_free_state (Read f) = false
 
-abbrev pub is_free_row : TagRow → Bool
-is_free_row p = is_free_state p.state
-
 abbrev pub is_tag : Tag → Bool
 is_tag t = ltb t.0 32
 
 -- the lowest free tag, if there is one
-unfoldable pub free_tag : List TagRow → FreeTag
-free_tag tags = cond (ltb (first_index is_free_row tags) 32) (Lowest (record { 0 = first_index is_free_row tags })) NoneFree
+unfoldable pub free_tag : List TagState → Option Tag
+free_tag tags = option_map (λ i. record { 0 = i }) (position is_free_state tags)
 
 -- the state of a tag
-unfoldable pub tag_state : List TagRow → Tag → TagState
-tag_state tags t = cond (is_tag t) (get_or tags t.0 (tag_row Free)).state Free
+unfoldable pub tag_state : List TagState → Tag → TagState
+tag_state tags t = cond (is_tag t) (get_or tags t.0 Free) Free
 
-unfoldable pub set_tag : List TagRow → Tag → TagState → List TagRow
-set_tag tags t o = cond (is_tag t) (set tags t.0 (tag_row o)) tags
+unfoldable pub set_tag : List TagState → Tag → TagState → List TagState
+set_tag tags t o = cond (is_tag t) (set tags t.0 o) tags
 
 -- the range of a Translation Request
 unfoldable pub translation_range : PendingTranslation → Range
@@ -81,37 +71,26 @@ invalidated_state itag Free = Free
 invalidated_state itag (Translate t) = Translate (stale_translation t)
 invalidated_state itag (Read f) = Read (delaying itag f)
 
-abbrev pub invalidated_row : Range → ITag → TagRow → TagRow
-invalidated_row range itag p = cond (pending_overlaps range p.state) (tag_row (invalidated_state itag p.state)) p
+abbrev pub invalidated_if : Range → ITag → TagState → TagState
+invalidated_if range itag o = cond (pending_overlaps range o) (invalidated_state itag o) o
 
-unfoldable pub invalidated_tags : Range → ITag → List TagRow → List TagRow
-invalidated_tags range itag tags = map (invalidated_row range itag) tags
-
-abbrev pub is_translation : TagState → Bool
-is_translation Free = false
-is_translation (Translate t) = true
-is_translation (Read f) = false
+unfoldable pub invalidated_tags : Range → ITag → List TagState → List TagState
+invalidated_tags range itag tags = map (invalidated_if range itag) tags
 
 abbrev pub stale_state : TagState → TagState
 stale_state Free = Free
 stale_state (Translate t) = Translate (stale_translation t)
 stale_state (Read f) = Read f
 
-abbrev pub stale_row : TagRow → TagRow
-stale_row p = cond (is_translation p.state) (tag_row (stale_state p.state)) p
-
 -- all outstanding Translation Requests become stale
-unfoldable pub all_stale : List TagRow → List TagRow
-all_stale tags = map stale_row tags
+unfoldable pub all_stale : List TagState → List TagState
+all_stale tags = map stale_state tags
 
 abbrev pub delayed_by : TagState → ℕ
 delayed_by Free = 0
 delayed_by (Translate t) = 0
 delayed_by (Read f) = f.itags
 
-abbrev pub delayed_by_row : TagRow → ℕ
-delayed_by_row p = delayed_by p.state
-
 -- the ITags that some outstanding read delays
-unfoldable pub delayed_itags : List TagRow → ℕ
-delayed_itags tags = fold_map bit_or delayed_by_row tags
+unfoldable pub delayed_itags : List TagState → ℕ
+delayed_itags tags = fold (λ v o. bit_or v (delayed_by o)) 0 tags

@@ -1,9 +1,16 @@
 #![tactic(auto)]
 
 use std::io;
+use test_player::Card;
 
 fn main(rt: HostRuntime) -> io::Result<()> {
     let mut input = test_lines::large_buffer();
     let mut output = test_lines::large_buffer();
-    test_player::serve(&mut rt.stdin(), &mut rt.stdout(), &mut input, &mut output)
+    test_lines::serve(
+        &mut Card::new(),
+        &mut rt.stdin(),
+        &mut rt.stdout(),
+        &mut input,
+        &mut output,
+    )
 }

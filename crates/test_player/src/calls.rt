@@ -1,96 +1,77 @@
-// Decodes the call of a record.
-ghost use Rattle.std.specs.Prelude.{◌≤◌};
-
 use call_access::Direction;
 use card::{AccessArgs, AskArgs, Command, ResetArgs};
 use packet::{PageRequest, PrgIndex};
-use test_records::take;
+use test_records::Input;
 
-fn take_reset(r: &[u8]) -> Command {
+// A call of a record: its arguments, how many bytes of a buffer it is given, 0 for a call that
+// never sends, and the packet that it receives or the payload of an access.
+#[derive(Clone, Copy)]
+pub(crate) struct Call<'a> {
+    pub(crate) command: Command,
+    pub(crate) room: u16,
+    pub(crate) bytes: &'a [u8],
+}
+
+fn take_reset(from: &mut Input) -> Command {
     Command::Reset(ResetArgs {
-        id: take::num16(r, 1),
-        stu: take::byte(r, 3),
-        rcb: take::byte(r, 4),
+        id: from.take(),
+        stu: from.take(),
+        rcb: from.take(),
     })
 }
 
-fn take_ask(r: &[u8]) -> Command {
+fn take_ask(from: &mut Input) -> Command {
     Command::Ask(AskArgs {
-        address: take::num64(r, 3),
-        units: take::num16(r, 11),
-        nowrite: take::flag(r, 13),
+        address: from.take(),
+        units: from.take(),
+        nowrite: from.take(),
     })
 }
 
-fn take_access(r: &[u8], direction: Direction) -> Command {
+fn take_access(direction: Direction, from: &mut Input) -> Command {
     Command::Access(AccessArgs {
         direction,
-        address: take::num64(r, 3),
-        dwords: take::num16(r, 11),
+        address: from.take(),
+        dwords: from.take(),
     })
 }
 
-fn take_page_request(r: &[u8]) -> Command {
-    let flags = take::byte(r, 13);
+fn take_page_request(from: &mut Input) -> Command {
+    let page = from.take();
+    let index = PrgIndex(from.take());
+    let flags = from.byte();
     Command::PageRequest(PageRequest {
-        page: take::num64(r, 3),
-        index: PrgIndex(take::num16(r, 11)),
-        last: flags / 4 % 2 == 1,
-        write: flags / 2 % 2 == 1,
-        read: flags % 2 == 1,
+        page,
+        index,
+        last: flags & 4 != 0,
+        write: flags & 2 != 0,
+        read: flags & 1 != 0,
     })
 }
 
-// The call and its arguments.
-pub(crate) fn take_command(r: &[u8]) -> Command {
-    let code = take::byte(r, 0);
-    match code {
-        0 => take_reset(r),
-        1 => Command::Enable,
-        2 => Command::Disable,
-        3 => take_ask(r),
-        4 => take_access(r, Direction::Read),
-        5 => take_access(r, Direction::Write),
-        6 => Command::Receive,
-        7 => Command::Drain,
-        8 => Command::PagesOn(take::num16(r, 1)),
-        9 => Command::PagesOff,
-        _ => take_page_request(r),
-    }
-}
-
-// Does the record receive a packet?
-pub(crate) fn is_receive(r: &[u8]) -> bool {
-    take::byte(r, 0) == 6
-}
-
-// Does the record ask for the whole state?
-pub(crate) fn is_show(r: &[u8]) -> bool {
-    take::byte(r, 0) == 15
-}
-
-// The received packet, or the payload of an access. No other call uses it.
-pub(crate) fn take_bytes(r: &[u8]) -> &[u8] {
-    if is_receive(r) {
-        take::part(r, 1)
-    } else {
-        take::part(r, 13)
-    }
-}
-
-fn least(a: usize, b: usize) -> usize
-    ensures { result ≤ b }
-{
-    if a < b { a } else { b }
-}
-
-// How many of the `most` bytes of a buffer the call is given; 0 for a call that never sends.
-pub(crate) fn take_room(r: &[u8], most: usize) -> usize
-    ensures { result ≤ most }
-{
-    let code = take::byte(r, 0);
-    match code {
-        3 | 4 | 5 | 7 | 10 => least(take::num16(r, 1) as usize, most),
-        _ => 0,
+// The call whose code has been read from a record. The codes are those of stored scripts. A code past
+// the last one is a page request that is given no room.
+pub(crate) fn take_call<'a>(code: u8, mut from: Input<'a>) -> Call<'a> {
+    let (room, command): (u16, Command) = match code {
+        0 => (0, take_reset(&mut from)),
+        1 => (0, Command::Enable),
+        2 => (0, Command::Disable),
+        3 => (from.take(), take_ask(&mut from)),
+        4 => (from.take(), take_access(Direction::Read, &mut from)),
+        5 => (from.take(), take_access(Direction::Write, &mut from)),
+        6 => (0, Command::Receive),
+        7 => (from.take(), Command::Drain),
+        8 => (0, Command::PagesOn(from.take())),
+        9 => (0, Command::PagesOff),
+        10 => (from.take(), take_page_request(&mut from)),
+        _ => {
+            let _: u16 = from.take();
+            (0, take_page_request(&mut from))
+        }
+    };
+    Call {
+        command,
+        room,
+        bytes: from.rest(),
     }
 }

@@ -2,3 +2,4 @@ pub mod Numerals
 pub mod Values
 pub mod Pairs
 pub mod Writing
+pub mod HexWriting

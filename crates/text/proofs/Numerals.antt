@@ -8,8 +8,9 @@ use native.Mathlib.Omega.{arith}
 use lib.Dec.{ltb}
 use lib.ListN.{length, drop, length-append, length-replicate}
 use lib.Seq.{drop_at}
+use Rattle.text.specs.declared.Numeral.{Numeral}
 use Rattle.text.specs.Digits.{decimal_in, decimal}
-use Rattle.text.specs.Numerals.{zeros, numeral}
+use Rattle.text.specs.Numerals.{zeros, numeral, digits_of}
 
 -- a 64-bit number has at most twenty digits
 one_more : (k n : ℕ) (t : Bool) (ds : List ℕ) → length ds ≤ k
@@ -35,6 +36,10 @@ pub numeral_long : (n : ℕ) → length (numeral n).digits ≡ 20
 unfolding numeral
 numeral_long n = rw (length-append, length-replicate) (numeral_starts n)
 
-pub numeral_ends : (n : ℕ) → drop (numeral n).start (numeral n).digits ≡ decimal n
+numeral_ends : (n : ℕ) → drop (numeral n).start (numeral n).digits ≡ decimal n
 unfolding numeral
 numeral_ends n = drop_at (zeros (20 - length (decimal n))) (decimal n) (20 - length (decimal n)) (length-replicate (20 - length (decimal n)) 48)
+
+-- what a caller knows of an array of digits: those from its start on are the number's
+pub numeral_digits : (n : ℕ) (x : Numeral) → x ≡ numeral n → digits_of x ≡ decimal n
+numeral_digits n x e = rw e (numeral_ends n)

@@ -1,6 +1,7 @@
 -- Laws of hex: bytes decoded pair by pair.
+use Rattle.std.proofs.lemmas.Bool.{and_parts}
 use mathlib.Core.Path.{◌≡◌, refl, sym, ap, ◌∙◌}
-use mathlib.Core.Bool.{Bool, true, false, ◌&&◌, true≢false}
+use mathlib.Core.Bool.{Bool, true, false, ◌&&◌, and_assoc}
 use mathlib.Core.List.{List, [], ◌∷◌, ◌++◌}
 use Prim.Native.Nat.{ℕ, zero, suc, ◌+◌, ◌*◌, ◌%◌, ◌≤◌, ◌<◌, zero-le}
 use native.Mathlib.Nat.{not-suc-le-zero, le_of_suc-le-suc}
@@ -16,20 +17,12 @@ use Rattle.text.specs.Digits.{hex_value, is_hex, all_hex, unhex}
 -- the first is a digit, and so are the others
 pub hex_cons : (c : ℕ) (cs : List ℕ) → all_hex (c ∷ cs) ≡ true → (is_hex c ≡ true) × (all_hex cs ≡ true)
 unfolding all_hex
-hex_cons c cs = go (is_hex c)
-  where
-    go : (t : Bool) → (t && all_hex cs) ≡ true → (t ≡ true) × (all_hex cs ≡ true)
-    go true e = (refl, e)
-    go false e = absurd (true≢false (sym e))
+hex_cons c cs = and_parts (is_hex c) (all_hex cs)
 
 pub digit_at : (cs : List ℕ) (i : ℕ) → all_hex cs ≡ true → i < length cs → is_hex (get_or cs i 0) ≡ true
 digit_at [] i h l = absurd (not-suc-le-zero l)
 digit_at (c ∷ cs) zero h l = (hex_cons c cs h).0
 digit_at (c ∷ cs) (suc i) h l = digit_at cs i (hex_cons c cs h).1 (le_of_suc-le-suc l)
-
-and_assoc : (a b c : Bool) → (a && b && c) ≡ (a && (b && c))
-and_assoc true b c = refl
-and_assoc false b c = refl
 
 pub all_hex_append : (a b : List ℕ) → all_hex (a ++ b) ≡ (all_hex a && all_hex b)
 unfolding all_hex

@@ -31,7 +31,7 @@ take_replicate (suc i) (suc n) h = ap (λ (l : List ℕ). 48 ∷ l) (take_replic
 fewer : (i n : ℕ) (d : List ℕ) → i ≤ n → take n d ≡ zeros n → take i d ≡ zeros i
 fewer i n d h e = sym (take-take i n d h) ∙ ap (take i) e ∙ take_replicate i n h
 
-stored : (d : List ℕ) (i v : ℕ) → i < length d → drop i (set d i v) ≡ v ∷ drop (suc i) d
+pub stored : (d : List ℕ) (i v : ℕ) → i < length d → drop i (set d i v) ≡ v ∷ drop (suc i) d
 stored [] i v h = absurd (not-suc-le-zero h)
 stored (x ∷ d) zero v h = refl
 stored (x ∷ d) (suc i) v h = stored d i v (le_of_suc-le-suc h)

@@ -1,4 +1,5 @@
 -- A packet and its frame, kind by kind.
+use Rattle.std.specs.Prelude.{Some}
 use Prim.Native.Nat.{ℕ, ◌+◌, ◌*◌, ◌/◌, ◌%◌, ◌<◌, ◌≤◌, ◌^◌}
 use native.Mathlib.Omega.{arith}
 use mathlib.Core.Path.{◌≡◌, refl, sym, ap, ap₂, ◌∙◌}
@@ -8,7 +9,6 @@ use borrow.Author.Tests.{ltb-true, leb-true, leb-false, eqb-true, lt-ltb, le-leb
 use Rattle.packet.specs.declared.Frame.{Frame}
 use Rattle.packet.specs.declared.Form.{Form}
 use Rattle.packet.specs.declared.Form.TheVariants.{Mrd32, Mrd64, Mwr32, Mwr64}
-use Rattle.packet.specs.declared.Choice.TheVariants.{Listed}
 use Rattle.packet.specs.declared.Head.{Head}
 use Rattle.packet.specs.declared.Access.{Access}
 use Rattle.packet.specs.declared.Access.TheVariants.{Read, Write}
@@ -82,7 +82,7 @@ module _ (a : ℕ) where
 record Forms (x y : Form) (body_of : Frame → ℕ → Body) (shapedAs : Frame → Bool) (loads : ℕ → ℕ) (w : Bool) : Type 0 where
   body : (f : Frame) → body_in (cond w x y) f ≡ body_of f (cond w (address64_in f) f.dword8)
   shape : (f : Frame) → well_formed (cond w x y) f ≡ cond w (ltb 0 f.dword8 && shapedAs f) (shapedAs f)
-  chosen : (b7 : ℕ) → choose (byte0_of (cond w x y)) b7 ≡ Listed (cond w x y)
+  chosen : (b7 : ℕ) → choose (byte0_of (cond w x y)) b7 ≡ Some (cond w x y)
   first : byte0_of (cond w x y) < 256
   long : (n : ℕ) → packet_length (cond w x y) n ≡ payload_offset (cond w x y) + loads n
   fixed : payload_offset (cond w x y) ≤ 16
@@ -102,7 +102,7 @@ stores false = record { body = λ f. refl; shape = λ f. refl; chosen = λ b7. r
 -- what holds of a packet's frame
 pub record Framed (h : Head) (b : Body) : Type 0 where
   pub sound : Sound (packet_frame (common_of h) b)
-  pub chosen : choose (packet_frame (common_of h) b).byte0 (packet_frame (common_of h) b).byte7 ≡ Listed (form_of b)
+  pub chosen : choose (packet_frame (common_of h) b).byte0 (packet_frame (common_of h) b).byte7 ≡ Some (form_of b)
   pub shape : well_formed (form_of b) (packet_frame (common_of h) b) ≡ true
   pub back : body_in (form_of b) (packet_frame (common_of h) b) ≡ b
   pub long : packet_length (form_of b) (packet_frame (common_of h) b).dwords ≡ payload_offset (form_of b) + payload_length b

@@ -1,4 +1,5 @@
 -- Reading and writing refuse with 4 exactly the forbidden values.
+use Rattle.std.specs.Prelude.{None, Ok, Option, Result, Some}
 use mathlib.Core.Path.{◌≡◌, refl, sym, ap, ◌∙◌}
 use mathlib.Core.Bool.{Bool, true, false, not, cond, ◌&&◌, ◌||◌}
 use mathlib.Core.List.{List}
@@ -9,13 +10,11 @@ use lib.ListN.{length}
 use borrow.Author.Tests.{eqb-true, eqb-false, eq-eqb, ne_eqb, leb-true, leb-false, ltb-true, le-ltb, lt-ltb}
 use Rattle.lemmas.proofs.Cases.{by_cases, and_both}
 use Rattle.lemmas.proofs.Bools.{no_tf}
-use Rattle.packet.specs.declared.Choice.{Choice}
-use Rattle.packet.specs.declared.Choice.TheVariants.{Listed, Unlisted}
 use Rattle.packet.specs.declared.Form.{Form}
 use Rattle.packet.specs.declared.Form.TheVariants.{Mrd32, Mrd64, Mwr32, Mwr64, CplNoData, CplData, InvReq, InvCpl, PageReq, PrgResp}
 use Rattle.packet.specs.declared.Frame.{Frame}
 use Rattle.packet.specs.declared.Packet.{Packet}
-use Rattle.packet.specs.Numbers.{Result, ok, refuse, check}
+use Rattle.packet.specs.Numbers.{refuse, check}
 use Rattle.packet.specs.Frames.{decode_frame}
 use Rattle.packet.specs.Forms.{choose, byte0_of, packet_length, byte_enables, payload_offset}
 use Rattle.packet.specs.Kinds.{body_in, packet_in, well_formed, short_enough, allowed_body, allowed, fields_in_range, payload_length, form_of, frame_of}
@@ -176,7 +175,7 @@ module _ (f : Frame) (h : f.at < 4) where
   by_phrases PageReq b s = rw b (in_class_0 (eqb f.common.tc 0))
   by_phrases PrgResp b s = rw (b, s) (in_class_0 (eqb f.common.tc 0))
 
-check_check : (s a z : Bool) (x : Result Packet) → (s && a) ≡ not z → check 4 s (check 4 a x) ≡ refuse 4 z x
+check_check : (s a z : Bool) (x : Result Packet ℕ) → (s && a) ≡ not z → check 4 s (check 4 a x) ≡ refuse 4 z x
 check_check true true true x e = no_tf e
 check_check true true false x e = refl
 check_check true false true x e = refl
@@ -187,16 +186,16 @@ check_check false a false x e = no_tf (sym e)
 -- a packet that is not refused with 1, 2 or 3 is refused with 4 if and only if it has a forbidden value
 pub reads_by_phrases : (b : List ℕ) → reading b ≡ reading_by_phrases b
 unfolding reading read_form decode_frame
-reads_by_phrases b = ap (λ (x : Result Packet). refuse 1 (ltb (length b) 12) (refuse 1 (ltb 144 (length b)) x)) (go (choose (decode_frame b).byte0 (decode_frame b).byte7) refl)
+reads_by_phrases b = ap (λ (x : Result Packet ℕ). refuse 1 (ltb (length b) 12) (refuse 1 (ltb 144 (length b)) x)) (go (choose (decode_frame b).byte0 (decode_frame b).byte7) refl)
   where
-    go : (c : Choice) → choose (decode_frame b).byte0 (decode_frame b).byte7 ≡ c
+    go : (c : Option Form) → choose (decode_frame b).byte0 (decode_frame b).byte7 ≡ c
         → read_choice c (decode_frame b) (length b) ≡ read_listed c (decode_frame b) (length b)
-    go Unlisted e = refl
-    go (Listed m) e =
+    go None e = refl
+    go (Some m) e =
         let f = decode_frame b in
         let two : f.at < 4 = omega arith in
         let c = rw e at (chosen_by f.byte0 f.byte7) in
-        ap (λ (x : Result Packet). check 1 (eqb (length b) (packet_length m f.dwords)) (check 3 (eqb f.common.marks 0) x)) (check_check (well_formed m f) (allowed (packet_in m f)) (forbidden f) (ok (packet_in m f)) (by_phrases f two m c.0 c.1))
+        ap (λ (x : Result Packet ℕ). check 1 (eqb (length b) (packet_length m f.dwords)) (check 3 (eqb f.common.marks 0) x)) (check_check (well_formed m f) (allowed (packet_in m f)) (forbidden f) (Ok (packet_in m f)) (by_phrases f two m c.0 c.1))
 
 module _ (p : Packet) (ty : Typed p) where
   allowed_by_phrases : fields_in_range p ≡ true → allowed p ≡ not (forbidden (frame_of p))
@@ -212,7 +211,7 @@ module _ (p : Packet) (ty : Typed p) where
   -- and the same holds for writing
   pub writes_by_phrases : (load room : ℕ) → writing p load room ≡ writing_by_phrases p load room
   unfolding writing
-  writes_by_phrases load room = by_cases (fields_in_range p) (λ w. rw (w, allowed_by_phrases w) (ap (λ (x : Result ℕ). check 12 (eqb load (payload_length p.body)) x) (turned (forbidden (frame_of p))))) (λ w. rw w)
+  writes_by_phrases load room = by_cases (fields_in_range p) (λ w. rw (w, allowed_by_phrases w) (ap (λ (x : Result ℕ ℕ). check 12 (eqb load (payload_length p.body)) x) (turned (forbidden (frame_of p))))) (λ w. rw w)
     where
       turned : (z : Bool)
           → check 4 (not z) (check_room (payload_offset (form_of p.body) + load) room)

@@ -1,4 +1,5 @@
 -- The laws of packets that the layers above use, so that they need not unfold the definitions.
+use Rattle.std.specs.Prelude.{Err, None, Ok, Option, Some}
 use mathlib.Core.Path.{◌≡◌, refl, sym, ap, ◌∙◌}
 use mathlib.Core.Bool.{Bool, true, false, not}
 use mathlib.Core.List.{List, []}
@@ -18,15 +19,12 @@ use Rattle.packet.specs.declared.Frame.{Frame}
 use Rattle.packet.specs.declared.Form.{Form}
 use Rattle.packet.specs.declared.Form.TheVariants.{Mrd32, Mrd64, Mwr32, Mwr64, CplNoData, CplData, InvReq, InvCpl, PageReq, PrgResp}
 use Rattle.packet.specs.declared.Body.TheVariants.{Cpl, Inv}
-use Rattle.packet.specs.Numbers.{ok, refusal}
 use Rattle.packet.proofs.Laws.{accepted}
 use Rattle.packet.specs.Frames.{attr_at, decode_frame}
 use Rattle.packet.specs.Forms.{payload_offset}
 use Rattle.packet.specs.Kinds.{codes_size, allowed_body, body_in, payload_length, form_of, attr_in, attr_bits, common_of, frame_of}
 use Rattle.packet.specs.Reading.{reading, payload_in}
 use Rattle.packet.specs.Writing.{writing, bytes_of, buffer_after}
-use Rattle.ranges.specs.declared.Size.{Size}
-use Rattle.ranges.specs.declared.Size.TheVariants.{Exponent, NoSize}
 use Rattle.ranges.specs.Size.{size_of}
 use Rattle.ranges.proofs.Laws.{no_size_lem}
 use Rattle.tlp.specs.Bytes.{Bytes}
@@ -37,7 +35,7 @@ use Rattle.tlp.proofs.RoundTrips.{written_reads, written_payload, written_length
 
 -- ---- a packet that was sent is at the start of the buffer
 
-module _ (p : Packet) (payload out : List ℕ) (n : ℕ) (e : writing p (length payload) (length out) ≡ ok n) where
+module _ (p : Packet) (payload out : List ℕ) (n : ℕ) (e : writing p (length payload) (length out) ≡ Ok n) where
   abbrev sent : List ℕ
   sent = buffer_after (writing p (length payload) (length out)) (bytes_of p payload) out
 
@@ -56,7 +54,7 @@ module _ (p : Packet) (payload out : List ℕ) (n : ℕ) (e : writing p (length 
 
   -- and it is read as that packet
   module _ (ty : Typed p) where
-    pub sent_reads : reading (take n sent) ≡ ok p
+    pub sent_reads : reading (take n sent) ≡ Ok p
     sent_reads = rw sent_bytes (written_reads p payload (length out) n ty e)
 
     pub sent_payload : payload_in (take n sent) ≡ payload
@@ -71,7 +69,7 @@ written_attr p payload =
     ∙ mod-eq_of_lt (attr_lt p.head.attr)
 
 -- no bytes are not a packet
-pub nothing_reads : reading [] ≡ refusal 1
+pub nothing_reads : reading [] ≡ Err 1
 unfolding reading
 nothing_reads = refl
 
@@ -109,11 +107,11 @@ from_12 PageReq f c q = impossible cc
 from_12 PrgResp f c q = impossible cc
 
 -- its Attr is what stands in the bytes
-pub read_attr : (b : List ℕ) (p : Packet) → reading b ≡ ok p → p.head.attr ≡ attr_in (attr_at b)
+pub read_attr : (b : List ℕ) (p : Packet) → reading b ≡ Ok p → p.head.attr ≡ attr_in (attr_at b)
 unfolding decode_frame
 read_attr b p e = ap (λ (x : Packet). x.head.attr) (sym (taken b p e).whole)
 
-module _ (b : List ℕ) (p : Packet) (h : Bytes b) (e : reading b ≡ ok p) where
+module _ (b : List ℕ) (p : Packet) (h : Bytes b) (e : reading b ≡ Ok p) where
   pub read_typed : Typed p
   unfolding decode_frame
   read_typed =
@@ -135,18 +133,18 @@ module _ (b : List ℕ) (p : Packet) (h : Bytes b) (e : reading b ≡ ok p) wher
 
 -- ---- an Invalidate Request that was read has a size
 
-size_given : (a : ℕ) (s : Bool) → a < 2 ^ 64 → codes_size a s ≡ true → (e : ℕ) × (size_of a s ≡ Exponent e)
+size_given : (a : ℕ) (s : Bool) → a < 2 ^ 64 → codes_size a s ≡ true → (e : ℕ) × (size_of a s ≡ Some e)
 size_given a s h k = go (size_of a s) refl
   where
     all_ones : (s ≡ true) × (a / 4096 ≡ 0xF_FFFF_FFFF_FFFF) → ⊥
     all_ones w = let q : not (eqb (a / 4096) 0xF_FFFF_FFFF_FFFF) ≡ true = rw w.0 at k in let r : false ≡ true = rw (eq-eqb _ _ w.1) at q in impossible cc
 
-    go : (x : Size) → size_of a s ≡ x → (e : ℕ) × (size_of a s ≡ Exponent e)
-    go (Exponent e) q = (e, q)
-    go NoSize q = absurd (all_ones (no_size_lem a s h q))
+    go : (x : Option ℕ) → size_of a s ≡ x → (e : ℕ) × (size_of a s ≡ Some e)
+    go (Some e) q = (e, q)
+    go None q = absurd (all_ones (no_size_lem a s h q))
 
-pub read_sized : (b : List ℕ) (p : Packet) (i : InvalidateRequest) → Bytes b → reading b ≡ ok p → p.body ≡ Inv i
-    → (e : ℕ) × (size_of i.address i.sized ≡ Exponent e)
+pub read_sized : (b : List ℕ) (p : Packet) (i : InvalidateRequest) → Bytes b → reading b ≡ Ok p → p.body ≡ Inv i
+    → (e : ℕ) × (size_of i.address i.sized ≡ Some e)
 unfolding TypedBody allowed_body
 read_sized b p i h e q =
     let ty = rw q at (read_typed b p h e).body in

@@ -1,4 +1,5 @@
 -- The QWORDs of a payload, and the translations in it, fit 64 bits.
+use Rattle.std.specs.Prelude.{None, Option, Some}
 use mathlib.Core.Path.{◌≡◌}
 use mathlib.Core.Bool.{true}
 use mathlib.Core.List.{List, [], ◌∷◌}
@@ -8,8 +9,6 @@ use lib.Dec.{ltb, lit≤}
 use lib.ListN.{length, drop}
 use borrow.Author.Tests.{ltb-true}
 use Rattle.lemmas.proofs.Cases.{by_cases, and_both}
-use Rattle.ranges.specs.declared.Size.{Size}
-use Rattle.ranges.specs.declared.Size.TheVariants.{Exponent, NoSize}
 use Rattle.ranges.specs.Size.{base_of, size_of, bit, translation_of}
 use Rattle.ranges.proofs.Units.{region_first}
 use Rattle.packet.specs.Frames.{eight_bytes}
@@ -48,6 +47,6 @@ pub base_lt : (b : List ℕ) → Bytes b → (k : ℕ) → (translation_at b k).
 unfolding translation_at translation_of
 base_lt b h k = go (qword_at b k) (size_of (qword_at b k) (bit (qword_at b k) 11)) (word_lt b h k)
   where
-    go : (w : ℕ) (s : Size) → w < 2 ^ 64 → base_of w s < 2 ^ 64
-    go w (Exponent e) l = omega (arith, region_first w e)
-    go w NoSize l = lit≤ tt
+    go : (w : ℕ) (s : Option ℕ) → w < 2 ^ 64 → base_of w s < 2 ^ 64
+    go w (Some e) l = omega (arith, region_first w e)
+    go w None l = lit≤ tt

@@ -1,4 +1,5 @@
 -- The frame of a packet that was read is the frame it was read from, with its ignored bits cleared.
+use Rattle.std.specs.Prelude.{None, Option, Some}
 use Prim.Native.Nat.{ℕ, zero, suc, ◌+◌, ◌*◌, ◌/◌, ◌%◌, ◌<◌, ◌≤◌, ◌^◌}
 use native.Mathlib.Omega.{arith}
 use mathlib.Core.Path.{◌≡◌, refl, sym}
@@ -12,8 +13,6 @@ use Rattle.packet.specs.declared.Access.{Access}
 use Rattle.packet.specs.declared.Access.TheVariants.{Read, Write}
 use Rattle.packet.specs.declared.Outcome.{Outcome}
 use Rattle.packet.specs.declared.Outcome.TheVariants.{Data, Status}
-use Rattle.packet.specs.declared.Choice.{Choice}
-use Rattle.packet.specs.declared.Choice.TheVariants.{Listed, Unlisted}
 use Rattle.packet.specs.Forms.{choose, byte0_of, payload_offset, packet_length, byte_enables}
 use Rattle.packet.specs.Kinds.{head_in, address64_in, tr_in, mem_in, cpl_in, body_in, access_payload_length, access_form, access_tag, outcome_form, outcome_dwords, outcome_status, outcome_payload_length, outcome_in_range, well_formed_mem, well_formed_read_request, well_formed, body_in_range, payload_length, needs64_bits, form_of, bit_of, address_dword8, address_dword12, common_of, packet_frame}
 use Rattle.lemmas.proofs.Cases.{by_cases, and_both}
@@ -38,11 +37,11 @@ Seven PageReq b = b ≡ 0x04
 Seven PrgResp b = b ≡ 0x05
 
 module _ (b0 b7 : ℕ) where
-  abbrev Chosen : Choice → Type 0
-  Chosen (Listed m) = (b0 ≡ byte0_of m) × Seven m b7
-  Chosen Unlisted = Unit {0}
+  abbrev Chosen : Option Form → Type 0
+  Chosen (Some m) = (b0 ≡ byte0_of m) × Seven m b7
+  Chosen None = Unit {0}
 
-  tested : (t : Bool) (x y : Choice) → (t ≡ true → Chosen x) → Chosen y → Chosen (cond t x y)
+  tested : (t : Bool) (x y : Option Form) → (t ≡ true → Chosen x) → Chosen y → Chosen (cond t x y)
   tested true x y p q = p refl
   tested false x y p q = q
 

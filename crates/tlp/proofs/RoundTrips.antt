@@ -1,4 +1,5 @@
 -- The round trips: write then read, read with ignored bits cleared, read then write.
+use Rattle.std.specs.Prelude.{Err, None, Ok, Option, Result, Some}
 use Prim.Native.Nat.{ℕ, ◌+◌, ◌/◌, ◌≤◌}
 use native.Mathlib.Omega.{arith}
 use mathlib.Core.Path.{◌≡◌, refl, sym, ap, ◌∙◌}
@@ -12,9 +13,7 @@ use Rattle.packet.specs.declared.Packet.{Packet}
 use Rattle.packet.specs.declared.Common.{Common}
 use Rattle.packet.specs.declared.Frame.{Frame}
 use Rattle.packet.specs.declared.Form.{Form}
-use Rattle.packet.specs.declared.Choice.{Choice}
-use Rattle.packet.specs.declared.Choice.TheVariants.{Listed, Unlisted}
-use Rattle.packet.specs.Numbers.{Result, ok, refusal, refuse}
+use Rattle.packet.specs.Numbers.{refuse}
 use Rattle.packet.specs.Frames.{byte, decode_frame, encode_frame}
 use Rattle.packet.specs.Forms.{choose, payload_offset, packet_length}
 use Rattle.packet.specs.Kinds.{head_in, well_formed, body_in, packet_in, allowed, payload_length, form_of, common_of, packet_frame, frame_of}
@@ -35,7 +34,7 @@ use Rattle.lemmas.proofs.Cases.{impossible}
 -- ---- a refused packet leaves the buffer unchanged
 
 pub refused_writes_nothing : (p : Packet) (payload out : List ℕ) (k : ℕ)
-    → writing p (length payload) (length out) ≡ refusal k
+    → writing p (length payload) (length out) ≡ Err k
     → buffer_after (writing p (length payload) (length out)) (bytes_of p payload) out ≡ out
 refused_writes_nothing p payload out k e = rw e
 
@@ -47,23 +46,23 @@ unfolding reading
 read_by_frame b h k = rw (le-ltb (length b) 12 h, le-ltb 144 (length b) k)
 
 -- and by the form that it selects
-read_by_form : (b : List ℕ) (m : Form) (n : ℕ) → choose (byte b 0) (byte b 7) ≡ Listed m
+read_by_form : (b : List ℕ) (m : Form) (n : ℕ) → choose (byte b 0) (byte b 7) ≡ Some m
     → read_frame (decode_frame b) n ≡ read_form m (decode_frame b) n
 unfolding decode_frame
-read_by_form b m n e = ap (λ (c : Choice). read_choice c (decode_frame b) n) e
+read_by_form b m n e = ap (λ (c : Option Form). read_choice c (decode_frame b) n) e
 
 -- a frame that passes each test is read as its packet
 read_whole : (m : Form) (f : Frame) (n : ℕ) → n ≡ packet_length m f.dwords → f.common.marks ≡ 0 → well_formed m f ≡ true
-    → allowed (packet_in m f) ≡ true → read_form m f n ≡ ok (packet_in m f)
+    → allowed (packet_in m f) ≡ true → read_form m f n ≡ Ok (packet_in m f)
 unfolding read_form
 read_whole m f n l z s a = rw (eq-eqb n (packet_length m f.dwords) l, eq-eqb f.common.marks 0 z, s, a)
 
-pub written_length : (p : Packet) (payload : List ℕ) (room n : ℕ) → writing p (length payload) room ≡ ok n
+pub written_length : (p : Packet) (payload : List ℕ) (room n : ℕ) → writing p (length payload) room ≡ Ok n
     → length (bytes_of p payload) ≡ n
 unfolding bytes_of
 written_length p payload room n e = rw (length-append, fixed_length) (accepted p (length payload) room n e).long
 
-module _ (p : Packet) (payload : List ℕ) (room n : ℕ) (ty : Typed p) (e : writing p (length payload) room ≡ ok n) where
+module _ (p : Packet) (payload : List ℕ) (room n : ℕ) (ty : Typed p) (e : writing p (length payload) room ≡ Ok n) where
   passed : Accepted p (length payload) room n
   passed = accepted p (length payload) room n e
 
@@ -81,14 +80,14 @@ module _ (p : Packet) (payload : List ℕ) (room n : ℕ) (ty : Typed p) (e : wr
       encode_frame_back (frame_of p) seated.sound no_marks (form_of p.body) payload
 
   -- bytes 0 and 7 select the form of the packet
-  pub kind_of_written : choose (byte (bytes_of p payload) 0) (byte (bytes_of p payload) 7) ≡ Listed (form_of p.body)
+  pub kind_of_written : choose (byte (bytes_of p payload) 0) (byte (bytes_of p payload) 7) ≡ Some (form_of p.body)
   unfolding decode_frame
   kind_of_written =
       let b0 = ap (λ (f : Frame). f.byte0) up_to_back in
       let b7 = ap (λ (f : Frame). f.byte7) up_to_back in
       rw (b0, b7) seated.chosen
 
-  pub written_reads : reading (bytes_of p payload) ≡ ok p
+  pub written_reads : reading (bytes_of p payload) ≡ Ok p
   written_reads =
       let b = bytes_of p payload in
       let m = form_of p.body in
@@ -105,7 +104,7 @@ module _ (p : Packet) (payload : List ℕ) (room n : ℕ) (ty : Typed p) (e : wr
       ∙ ap (λ (x : Frame). read_form m x (length b)) up_to_back
       ∙ read_up_to m f (length b)
       ∙ read_whole m f (length b) (len ∙ sym seated.long) no_marks seated.shape (ap allowed same ∙ passed.allows)
-      ∙ ap ok same
+      ∙ ap Ok same
 
   pub written_payload : payload_in (bytes_of p payload) ≡ payload
   unfolding payload_in bytes_of
@@ -127,17 +126,17 @@ module _ (b : List ℕ) (h : Bytes b) where
       ∙ ap (λ (f : Frame). read_form m f (length b)) (tidy_frame b h m t)
       ∙ rw e (read_tidy (decode_frame b) (length b) m)
 
-  normal_as_lem : (c : Choice) → choose (byte b 0) (byte b 7) ≡ c
+  normal_as_lem : (c : Option Form) → choose (byte b 0) (byte b 7) ≡ c
       → reading (normal_as c (eqb (decode_frame b).at 1) b) ≡ reading b
   unfolding reading
-  normal_as_lem Unlisted e = refl
-  normal_as_lem (Listed m) e =
+  normal_as_lem None e = refl
+  normal_as_lem (Some m) e =
       let t = eqb (decode_frame b).at 1 in
       let c = masked (mask_of m t) b in
       let n = length b in
-      let e2 : choose (byte c 0) (byte c 7) ≡ Listed m = rw (under_0 b h m t, under_7 b h m t) e in
+      let e2 : choose (byte c 0) (byte c 7) ≡ Some m = rw (under_0 b h m t, under_7 b h m t) e in
       let same : read_frame (decode_frame c) n ≡ read_frame (decode_frame b) n = read_by_form c m n e2 ∙ normal_frame m t refl ∙ sym (read_by_form b m n e) in
-      rw (masked_length (mask_of m t) b) (ap (λ (x : Result Packet). refuse 1 (ltb n 12) (refuse 1 (ltb 144 n) x)) same)
+      rw (masked_length (mask_of m t) b) (ap (λ (x : Result Packet ℕ). refuse 1 (ltb n 12) (refuse 1 (ltb 144 n) x)) same)
 
   pub normal_reads : reading (normal b) ≡ reading b
   unfolding normal
@@ -149,7 +148,7 @@ module _ (b : List ℕ) (h : Bytes b) where
 pub record Taken (b : List ℕ) (p : Packet) : Type 0 where
   pub form : Form
   pub low : 12 ≤ length b
-  pub chosen : choose (byte b 0) (byte b 7) ≡ Listed form
+  pub chosen : choose (byte b 0) (byte b 7) ≡ Some form
   pub long : length b ≡ packet_length form (decode_frame b).dwords
   pub marks : (decode_frame b).common.marks ≡ 0
   pub shape : well_formed form (decode_frame b) ≡ true
@@ -157,16 +156,16 @@ pub record Taken (b : List ℕ) (p : Packet) : Type 0 where
   pub whole : packet_in form (decode_frame b) ≡ p
 
 module _ (b : List ℕ) (p : Packet) (low : 12 ≤ length b) where
-  taken_as : (c : Choice) → choose (byte b 0) (byte b 7) ≡ c → read_choice c (decode_frame b) (length b) ≡ ok p
+  taken_as : (c : Option Form) → choose (byte b 0) (byte b 7) ≡ c → read_choice c (decode_frame b) (length b) ≡ Ok p
       → Taken b p
   unfolding read_form
-  taken_as Unlisted q e = impossible cc
-  taken_as (Listed m) q e =
+  taken_as None q e = impossible cc
+  taken_as (Some m) q e =
       let f = decode_frame b in
       let p1 = check_passed (eqb (length b) (packet_length m f.dwords)) 1 _ e in
       let p2 = check_passed (eqb f.common.marks 0) 3 _ p1.1 in
       let p3 = check_passed (well_formed m f) 4 _ p2.1 in
-      let p4 = check_passed (allowed (packet_in m f)) 4 (ok (packet_in m f)) p3.1 in
+      let p4 = check_passed (allowed (packet_in m f)) 4 (Ok (packet_in m f)) p3.1 in
       let same = ok_injective p4.1 in
       record {
         form = m;
@@ -179,7 +178,7 @@ module _ (b : List ℕ) (p : Packet) (low : 12 ≤ length b) where
         whole = same;
       }
 
-pub taken : (b : List ℕ) (p : Packet) → reading b ≡ ok p → Taken b p
+pub taken : (b : List ℕ) (p : Packet) → reading b ≡ Ok p → Taken b p
 unfolding reading decode_frame
 taken b p e =
     let p1 = refuse_passed (ltb (length b) 12) 1 _ e in
@@ -190,7 +189,7 @@ marks_is : (b : List ℕ) → (decode_frame b).common.marks ≡ 0 → byte b 2 /
 unfolding decode_frame
 marks_is b z = z
 
-module _ (b : List ℕ) (p : Packet) (h : Bytes b) (e : reading b ≡ ok p) where
+module _ (b : List ℕ) (p : Packet) (h : Bytes b) (e : reading b ≡ Ok p) where
   pub told : Taken b p
   told = taken b p e
 
@@ -226,7 +225,7 @@ module _ (b : List ℕ) (p : Packet) (h : Bytes b) (e : reading b ≡ ok p) wher
       let all : bytes_of (packet_in m f) (payload_in b) ≡ c = rw (refitted.form, front, rest) (take-append-drop n c) in
       ap (λ (x : Packet). bytes_of x (payload_in b)) (sym told.whole) ∙ all ∙ rw told.chosen
 
-  writes_back : (room : ℕ) → length b ≤ room → writing p (length (payload_in b)) room ≡ ok (length b)
+  writes_back : (room : ℕ) → length b ≤ room → writing p (length (payload_in b)) room ≡ Ok (length b)
   unfolding writing
   writes_back room k =
       let m = told.form in
@@ -238,10 +237,10 @@ module _ (b : List ℕ) (p : Packet) (h : Bytes b) (e : reading b ≡ ok p) wher
       let wide : payload_offset m + length (payload_in b) ≡ length b = rw load sum in
       let tc = lt-ltb f.common.tc 8 (frame_sound b h).common.tc in
       let a : allowed (packet_in m f) ≡ true = ap allowed told.whole ∙ told.allows in
-      let all : writing (packet_in m f) (length (payload_in b)) room ≡ ok (length b) =
+      let all : writing (packet_in m f) (length (payload_in b)) room ≡ Ok (length b) =
       rw (tc, refitted.within, eq-eqb (length (payload_in b)) (payload_length (body_in m f)) load, a, refitted.form, wide, le-ltb room (length b) k) in
       ap (λ (x : Packet). writing x (length (payload_in b)) room) (sym told.whole) ∙ all
 
-pub read_writes : (b : List ℕ) (p : Packet) (room : ℕ) → Bytes b → reading b ≡ ok p → length b ≤ room
-    → writing p (length (payload_in b)) room ≡ ok (length b)
+pub read_writes : (b : List ℕ) (p : Packet) (room : ℕ) → Bytes b → reading b ≡ Ok p → length b ≤ room
+    → writing p (length (payload_in b)) room ≡ Ok (length b)
 read_writes b p room h e k = writes_back b p h e room k

@@ -1,14 +1,13 @@
 -- The forbidden values once more, phrase by phrase as in the list, and independent of the definitions of the kinds. 01, "Forbidden values".
-use Rattle.std.specs.Prelude.{Bool, not, cond, ◌&&◌, ◌||◌, List, ℕ, ◌+◌, ◌/◌, ◌%◌, eqb, ltb, length}
-use Rattle.packet.specs.declared.Choice.{Choice}
-use Rattle.packet.specs.declared.Choice.TheVariants.{Listed, Unlisted}
+use Rattle.std.specs.Prelude.{Bool, not, cond, ◌&&◌, ◌||◌, List, ℕ, ◌+◌, ◌/◌, ◌%◌, eqb, ltb, length, Err, None, Ok, Option, Result, Some}
 use Rattle.packet.specs.declared.Frame.{Frame}
 use Rattle.packet.specs.declared.Packet.{Packet}
-use Rattle.packet.specs.Numbers.{Result, ok, refusal, refuse, check}
+use Rattle.packet.specs.Numbers.{refuse, check}
 use Rattle.packet.specs.Frames.{decode_frame}
 use Rattle.packet.specs.Forms.{choose, packet_length, payload_offset}
 use Rattle.packet.specs.Kinds.{packet_in, fields_in_range, payload_length, form_of, frame_of}
 use Rattle.packet.specs.Writing.{check_room}
+use Rattle.packet.specs.declared.Form.{Form}
 
 -- ---- the kinds, determined by byte 0, byte 7 and AT
 
@@ -100,15 +99,15 @@ forbidden f =
 -- ---- reading and writing
 
 -- reading with that list: 1, 2, 1 and 3 as they are, then 4 by the phrases
-abbrev pub read_listed : Choice → Frame → ℕ → Result Packet
-read_listed (Listed m) f n =
+abbrev pub read_listed : Option Form → Frame → ℕ → Result Packet ℕ
+read_listed (Some m) f n =
     check 1 (eqb n (packet_length m f.dwords))
     (check 3 (eqb f.common.marks 0)
     (refuse 4 (forbidden f)
-    (ok (packet_in m f))))
-read_listed Unlisted f n = refusal 2
+    (Ok (packet_in m f))))
+read_listed None f n = Err 2
 
-abbrev pub reading_by_phrases : List ℕ → Result Packet
+abbrev pub reading_by_phrases : List ℕ → Result Packet ℕ
 reading_by_phrases b =
     let f = decode_frame b in
     refuse 1 (ltb (length b) 12)
@@ -116,7 +115,7 @@ reading_by_phrases b =
     (read_listed (choose f.byte0 f.byte7) f (length b)))
 
 -- writing with that list, applied to the frame that would be sent: 12 as it is, then 4 by the phrases, then 17
-abbrev pub writing_by_phrases : Packet → ℕ → ℕ → Result ℕ
+abbrev pub writing_by_phrases : Packet → ℕ → ℕ → Result ℕ ℕ
 writing_by_phrases p load room =
     check 12 (fields_in_range p)
     (check 12 (eqb load (payload_length p.body))

@@ -7,12 +7,11 @@ ghost use Rattle.tlp.specs.Translations.{translation_at};
 
 pub use packet::{
     Access, Body, Completion, Head, ITag, InvalidateCompletion, InvalidateRequest, MemoryRequest,
-    Outcome, Packet, PageRequest, PrgIndex, PrgResponse, Reading, Refusal, Tag, TranslationRequest,
-    Writing, number,
+    Outcome, Packet, PageRequest, PrgIndex, PrgResponse, Refusal, Tag, TranslationRequest, number,
 };
 pub use ranges::{
-    Range, Size, Translation, coded, overlaps, range_from, region, region_number, relocate,
-    rounded, size_of, translation_of, unit_bytes, unit_exponent, units_from, word_of,
+    Range, Translation, coded, overlaps, range_from, region, region_number, relocate, rounded,
+    size_of, translation_of, unit_bytes, unit_exponent, units_from, word_of,
 };
 pub use reader::{part_from, payload, read_packet};
 pub use writer::write_packet;

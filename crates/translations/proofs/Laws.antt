@@ -1,4 +1,5 @@
 -- What a completion stores in the cache.
+use Rattle.std.specs.Prelude.{None, Option, Some}
 use mathlib.Core.Path.{◌≡◌, refl}
 use mathlib.Core.Bool.{true}
 use mathlib.Core.List.{List}
@@ -15,8 +16,6 @@ use Rattle.ranges.specs.Range.{unit_bytes, unit_count}
 use Rattle.tlp.specs.Translations.{translation_at}
 use Rattle.atc.specs.declared.Entry.{Entry}
 use Rattle.atc.specs.declared.Cache.{Cache}
-use Rattle.atc.specs.declared.Found.{Found}
-use Rattle.atc.specs.declared.Found.TheVariants.{Miss}
 use Rattle.atc.specs.Cache.{found, no_entry, entry_at, filled_with, unit_dropped, SoundCache}
 use Rattle.atc.proofs.Laws.{laws}
 use Rattle.tags.specs.declared.PendingTranslation.{PendingTranslation}
@@ -90,22 +89,22 @@ module _ (q : PendingTranslation) (load : List ℕ) where
   -- each slot is unchanged, or free, or holds an entry that the completion brought
   pub applied_entry : (c : Cache) → SoundCache c → (i : ℕ)
       → (entry_at (applied q load c) i ≡ entry_at c i)
-      ⊎ ((entry_at (applied q load c) i ≡ no_entry) ⊎ Brought q load (entry_at (applied q load c) i))
+      ⊎ ((entry_at (applied q load c) i ≡ no_entry) ⊎ ((x : Entry) × (entry_at (applied q load c) i ≡ Some x) × Brought q load x))
   applied_entry c s i =
       (applied_keeps (λ d. SoundCache d × From (entry_at d i)) c (s, inl refl)
-      (λ x d b k. (laws.fill_sound x d k.0, ⊎_elim (λ same. rw same k.1) (λ new. inr (inr (rw new b))) (laws.fill_entry x d k.0 i)))
+      (λ x d b k. (laws.fill_sound x d k.0, ⊎_elim (λ same. rw same k.1) (λ new. inr (inr (x, new, b))) (laws.fill_entry x d k.0 i)))
       (λ unit d b k. (laws.drop_sound unit d k.0, ⊎_elim (λ same. rw same k.1) (λ none. inr (inl none)) (laws.drop_entry unit d k.0 i)))).1
     where
-      From : Entry → Type 0
-      From x = (x ≡ entry_at c i) ⊎ ((x ≡ no_entry) ⊎ Brought q load x)
+      From : Option Entry → Type 0
+      From slot = (slot ≡ entry_at c i) ⊎ ((slot ≡ no_entry) ⊎ ((x : Entry) × (slot ≡ Some x) × Brought q load x))
 
   -- a unit outside the range gets no new entry: it keeps its own or loses it
   pub applied_outside : (c : Cache) → SoundCache c → (unit : ℕ) → (Inside (translation_range q) unit → ⊥)
-      → (found (applied q load c) unit ≡ found c unit) ⊎ (found (applied q load c) unit ≡ Miss)
+      → (found (applied q load c) unit ≡ found c unit) ⊎ (found (applied q load c) unit ≡ None)
   applied_outside c s unit outside =
       (applied_keeps (λ d. SoundCache d × Seen (found d unit)) c (s, inl refl)
       (λ x d b k. (laws.fill_sound x d k.0, ⊎_elim (λ a. rw a k.1) inr (laws.fill_other x d k.0 unit (λ e. outside (rw e at b.inside)))))
       (λ other d b k. (laws.drop_sound other d k.0, rw (laws.drop_other other d k.0 unit (λ e. outside (rw e at b))) k.1))).1
     where
-      Seen : Found → Type 0
-      Seen r = (r ≡ found c unit) ⊎ (r ≡ Miss)
+      Seen : Option Entry → Type 0
+      Seen r = (r ≡ found c unit) ⊎ (r ≡ None)

@@ -1,4 +1,5 @@
 -- What is known of a completion that is the first of two, the last, or the only one off the boundary.
+use Rattle.std.specs.Prelude.{None, Option, Some}
 use mathlib.Core.Path.{◌≡◌, refl, sym, ◌∙◌}
 use mathlib.Core.Bool.{Bool, true, false, cond}
 use mathlib.Core.List.{List}
@@ -8,8 +9,6 @@ use lib.ListN.{length}
 use borrow.Author.Tests.{eqb-true, eqb-false, leb-true}
 use Rattle.lemmas.proofs.Cases.{by_cases, and_both, never_both, impossible}
 use Rattle.lemmas.proofs.All.{all_stop}
-use Rattle.ranges.specs.declared.Size.{Size}
-use Rattle.ranges.specs.declared.Size.TheVariants.{Exponent, NoSize}
 use Rattle.ranges.specs.Range.{unit_exponent, unit_count}
 use Rattle.tlp.specs.Translations.{translation_at}
 use Rattle.tags.specs.declared.PendingTranslation.{PendingTranslation}
@@ -141,11 +140,11 @@ pub one_size : (q : PendingTranslation) (load : List ℕ) → translations_fit q
 unfolding common_size size_fits all_fit translation_fits
 one_size q load f some = by_cases (eqb q.due 0) (λ u. rw u refl) (λ u. rw u (second (rw u at f)))
   where
-    sized : (s : Size) (e : ℕ) → size_is s e ≡ true → exponent_or0 s ≡ e
-    sized (Exponent own) e h = eqb-true own e h
-    sized NoSize e h = no_tf (sym h)
+    sized : (s : Option ℕ) (e : ℕ) → size_is s e ≡ true → exponent_or0 s ≡ e
+    sized (Some own) e h = eqb-true own e h
+    sized None e h = no_tf (sym h)
 
-    second : size_fits q (Exponent q.size) load ≡ true → exponent_or0 (translation_at load 0).size ≡ q.size
+    second : size_fits q (Some q.size) load ≡ true → exponent_or0 (translation_at load 0).size ≡ q.size
     second h =
         let every = (and_both (leb (unit_exponent q.stu) q.size) _ h).1 in
         let test : ℕ → Bool = λ i. translation_fits (translation_range q) q.size (received_count q + i) (translation_at load i).size in

@@ -1,5 +1,5 @@
 -- What a completion that fits does to the cache and to its request. 01, "Completion for a TR, data".
-use Rattle.std.specs.Prelude.{Bool, true, cond, ◌||◌, List, ℕ, ◌+◌, ◌-◌, ◌*◌, ◌/◌, ◌^◌, ltb, length}
+use Rattle.std.specs.Prelude.{Bool, cond, ◌||◌, List, ℕ, ◌+◌, ◌-◌, ◌*◌, ◌/◌, ◌^◌, ltb, length}
 use Rattle.lemmas.specs.Iterate.{iterate}
 use Rattle.ranges.specs.declared.Range.{Range}
 use Rattle.ranges.specs.declared.Translation.{Translation}
@@ -21,7 +21,6 @@ allows_access x = x.r || x.w
 abbrev pub entry_of : Translation → ℕ → ℕ → Entry
 entry_of x e unit =
     record {
-      used = true;
       r = x.r;
       w = x.w;
       n = x.n;

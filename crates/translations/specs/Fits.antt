@@ -1,9 +1,7 @@
 -- Does a completion with data fit its Translation Request? 01, "Completion for a TR, data".
-use Rattle.std.specs.Prelude.{Bool, false, cond, ◌&&◌, List, ℕ, ◌+◌, ◌-◌, ◌*◌, ◌/◌, ◌%◌, ◌^◌, eqb, leb, length}
+use Rattle.std.specs.Prelude.{Bool, false, cond, ◌&&◌, List, ℕ, ◌+◌, ◌-◌, ◌*◌, ◌/◌, ◌%◌, ◌^◌, eqb, leb, length, None, Option, Some, unwrap_or}
 use Rattle.lemmas.specs.All.{all_below}
 use Rattle.ranges.specs.declared.Range.{Range}
-use Rattle.ranges.specs.declared.Size.{Size}
-use Rattle.ranges.specs.declared.Size.TheVariants.{Exponent, NoSize}
 use Rattle.ranges.specs.Range.{unit_exponent, unit_count}
 use Rattle.tlp.specs.Translations.{translation_at}
 use Rattle.tags.specs.declared.PendingTranslation.{PendingTranslation}
@@ -50,17 +48,16 @@ part_of t rcb count lower bytes =
     (cond (eqb t.due 0) (first_part rcb (8 * unit_count t.further) count lower bytes) (second_part t.due count lower bytes))
 
 -- the common size of all translations: that of the first, which is recorded for the second packet
-unfoldable pub common_size : PendingTranslation → List ℕ → Size
-common_size t payload = cond (eqb t.due 0) (translation_at payload 0).size (Exponent t.size)
+unfoldable pub common_size : PendingTranslation → List ℕ → Option ℕ
+common_size t payload = cond (eqb t.due 0) (translation_at payload 0).size (Some t.size)
 
 -- a size as an exponent; 0 if there is none, in which case nothing fits
-abbrev pub exponent_or0 : Size → ℕ
-exponent_or0 (Exponent e) = e
-exponent_or0 NoSize = 0
+abbrev pub exponent_or0 : Option ℕ → ℕ
+exponent_or0 size = unwrap_or size 0
 
-abbrev pub size_is : Size → ℕ → Bool
-size_is (Exponent own) e = eqb own e
-size_is NoSize e = false
+abbrev pub size_is : Option ℕ → ℕ → Bool
+size_is (Some own) e = eqb own e
+size_is None e = false
 
 -- region k of 2 ^ e bytes begins below the end of the range; region 0 holds the requested address
 unfoldable pub begins_in : Range → ℕ → ℕ → Bool
@@ -70,7 +67,7 @@ begins_in range e k = leb ((range.first / 2 ^ e + k) * 2 ^ e) range.last
 unfoldable pub received_count : PendingTranslation → ℕ
 received_count t = (t.whole - t.due) / 8
 
-unfoldable pub translation_fits : Range → ℕ → ℕ → Size → Bool
+unfoldable pub translation_fits : Range → ℕ → ℕ → Option ℕ → Bool
 translation_fits range e k size = size_is size e && begins_in range e k
 
 -- every translation of the payload fits; `before` translations came in an earlier packet
@@ -79,10 +76,10 @@ all_fit range e before payload =
     all_below (λ i. translation_fits range e (before + i) (translation_at payload i).size) (length payload / 8)
 
 -- no size does not fit, nor does a size below the unit
-unfoldable pub size_fits : PendingTranslation → Size → List ℕ → Bool
-size_fits t (Exponent e) payload =
+unfoldable pub size_fits : PendingTranslation → Option ℕ → List ℕ → Bool
+size_fits t (Some e) payload =
     leb (unit_exponent t.stu) e && all_fit (translation_range t) e (received_count t) payload
-size_fits t NoSize payload = false
+size_fits t None payload = false
 
 abbrev pub translations_fit : PendingTranslation → List ℕ → Bool
 translations_fit t payload = size_fits t (common_size t payload) payload

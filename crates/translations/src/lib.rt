@@ -1,25 +1,26 @@
 // Completions with data for a Translation Request: classification, and updates of the cache.
 #![tactic(auto)]
 
-ghost use Rattle.std.specs.Prelude.{◌≡◌, cond, ◌-◌, ◌*◌, ◌≤◌, length};
+ghost use Rattle.std.specs.Prelude.{◌≡◌, ◌≤◌};
 ghost use Rattle.ranges.specs.Range.{relocated};
-ghost use Rattle.translations.specs.Fits.{boundary, on_boundary, first_part, second_part, part_of, common_size, exponent_or0, size_is, begins_in, received_count, translation_fits, all_fit, size_fits, translations_fit, classified};
+ghost use Rattle.tags.specs.Tags.{translation_range};
+ghost use Rattle.translations.specs.Fits.{boundary, on_boundary, first_part, second_part, part_of, common_size, size_is, begins_in, received_count, translation_fits, all_fit, size_fits, translations_fit, classified};
 ghost use Rattle.translations.specs.Fills.{allows_access, entry_of, unit_updated, updated_if_covered, updated_at, applied, after_first};
 
 use atc::{Cache, Entry};
-use ranges::{Range, Size, Translation};
+use ranges::{Range, Translation};
 use tags::PendingTranslation;
 
-// The Read Completion Boundary.
-#[derive(Clone, Copy)]
+// The Read Completion Boundary, in bytes.
+#[derive(Clone, Copy, PartialEq, Eq, Debug)]
 pub enum Rcb {
-    B64,
-    B128,
+    B64 = 64,
+    B128 = 128,
 }
 
 // The class of a completion: it does not fit its request; it is the only packet and ends off the
 // boundary; it is the first of two; or it is the last.
-#[derive(Clone, Copy)]
+#[derive(Clone, Copy, PartialEq, Eq, Debug)]
 pub enum Part {
     Misfit,
     OffBoundary,
@@ -27,51 +28,51 @@ pub enum Part {
     Last,
 }
 
+// The translations of a payload over the units of a range. Each is for a region of 2^e bytes, and
+// `before` of them came in an earlier packet.
+#[derive(Clone, Copy)]
+struct Load<'a> {
+    range: Range,
+    stu: u8,
+    e: u32,
+    before: u64,
+    payload: &'a [u8],
+    ghost few: { before ≤ 8191 },
+}
+
 // The Read Completion Boundary in bytes.
 pub fn boundary_bytes(rcb: Rcb) -> u16
     ensures { result ≡ boundary rcb }
 {
-    match rcb {
-        Rcb::B64 => 64,
-        Rcb::B128 => 128,
-    }
+    rcb as u16
 }
 
 #[tactic(auto, unfolding(crate::specs::Fits::on_boundary))]
 fn is_on_boundary(rcb: Rcb, n: u32) -> bool
     ensures { result ≡ on_boundary rcb n }
 {
-    match rcb {
-        Rcb::B64 => n % 64 == 0,
-        Rcb::B128 => n % 128 == 0,
-    }
+    n % rcb as u32 == 0
 }
 
+// Byte Count, Lower Address and length stay three arguments here and below, as in the definitions and
+// in `classify`.
 #[tactic(auto, using(lemmas::proofs::Cases::cases), unfolding(crate::specs::Fits::first_part))]
 fn first_part(rcb: Rcb, most: u16, count: u16, lower: u8, bytes: usize) -> Part
     ensures { result ≡ first_part rcb most count lower bytes }
 {
-    if count % 8 != 0 {
+    if count % 8 != 0 || usize::from(count) < bytes || most < count {
         return Part::Misfit;
     }
-    if (count as usize) < bytes {
-        return Part::Misfit;
-    }
-    if most < count {
-        return Part::Misfit;
-    }
-    if count as usize == bytes {
+    if usize::from(count) == bytes {
         if is_on_boundary(rcb, count as u32 + lower as u32) {
             Part::Last
         } else {
             Part::OffBoundary
         }
+    } else if is_on_boundary(rcb, bytes as u32 + lower as u32) {
+        Part::First
     } else {
-        if is_on_boundary(rcb, bytes as u32 + lower as u32) {
-            Part::First
-        } else {
-            Part::Misfit
-        }
+        Part::Misfit
     }
 }
 
@@ -79,16 +80,11 @@ fn first_part(rcb: Rcb, most: u16, count: u16, lower: u8, bytes: usize) -> Part
 fn second_part(due: u16, count: u16, lower: u8, bytes: usize) -> Part
     ensures { result ≡ second_part due count lower bytes }
 {
-    if count != due {
-        return Part::Misfit;
+    if count == due && bytes == usize::from(due) && lower == 0 {
+        Part::Last
+    } else {
+        Part::Misfit
     }
-    if bytes != due as usize {
-        return Part::Misfit;
-    }
-    if lower != 0 {
-        return Part::Misfit;
-    }
-    Part::Last
 }
 
 // The class by Byte Count, Lower Address and length, without the translations.
@@ -107,34 +103,23 @@ fn part_of(t: PendingTranslation, rcb: Rcb, count: u16, lower: u8, bytes: usize)
     }
 }
 
-// The size that all translations of a request must have: that of the first.
+// The size that all translations of a request must have: that of the first. Request and payload stay two
+// arguments, as in the public functions below.
 #[tactic(auto, using(lemmas::proofs::Cases::cases), unfolding(crate::specs::Fits::common_size))]
-fn common_size(t: PendingTranslation, payload: &[u8]) -> Size
+fn common_size(t: PendingTranslation, payload: &[u8]) -> Option<u32>
     ensures { result ≡ common_size t payload.now }
 {
     if t.due == 0 {
         tlp::translation_at(payload, 0).size
     } else {
-        Size::Exponent(t.size)
+        Some(t.size)
     }
 }
 
-fn exponent_or_0(size: Size) -> u32
-    ensures { result ≡ exponent_or0 size }
-{
-    match size {
-        Size::Exponent(e) => e,
-        Size::NoSize => 0,
-    }
-}
-
-fn size_is(size: Size, e: u32) -> bool
+fn size_is(size: Option<u32>, e: u32) -> bool
     ensures { result ≡ size_is size e }
 {
-    match size {
-        Size::Exponent(own) => own == e,
-        Size::NoSize => false,
-    }
+    size.is_some_and(|own| own == e)
 }
 
 // Does region k of 2^e bytes begin in the range? Region 0 holds the first byte of the range.
@@ -155,55 +140,88 @@ fn begins_in(range: Range, e: u32, k: u64) -> bool
 fn received_count(t: PendingTranslation) -> u64
     ensures { (result ≡ received_count t) × (result ≤ 8191) }
 {
-    if t.whole < t.due {
-        0
-    } else {
-        ((t.whole - t.due) / 8) as u64
-    }
+    u64::from(t.whole.saturating_sub(t.due) / 8)
 }
 
 #[tactic(auto, using(lemmas::proofs::Cases::cases), unfolding(crate::specs::Fits::translation_fits))]
-fn translation_fits(range: Range, e: u32, k: u64, size: Size) -> bool
+fn translation_fits(range: Range, e: u32, k: u64, size: Option<u32>) -> bool
     ensures { result ≡ translation_fits range e k size }
 {
-    if size_is(size, e) {
-        begins_in(range, e, k)
-    } else {
-        false
-    }
+    size_is(size, e) && begins_in(range, e, k)
 }
 
-// Do all translations of the payload fit? `before` translations came in an earlier packet.
-fn all_fit(range: Range, e: u32, before: u64, payload: &[u8]) -> bool
-    requires { before ≤ 8191 }
-    ensures { result ≡ all_fit range e before payload.now }
-{
-    let n = payload.len() / 8;
-    let mut i: usize = 0;
-    while i < n {
-        let size = tlp::translation_at(payload, i).size;
-        if translation_fits(range, e, before + i as u64, size) {
-            i += 1;
-        } else {
-            return false;
+impl<'a> Load<'a> {
+    // The payload of a completion for a request.
+    fn of(t: PendingTranslation, e: u32, payload: &'a [u8]) -> Load<'a>
+        ensures range { result.range ≡ translation_range t }
+        ensures stu { result.stu ≡ t.stu }
+        ensures e { result.e ≡ e }
+        ensures before { result.before ≡ received_count t }
+        ensures payload { result.payload.now ≡ payload.now }
+    {
+        Load {
+            range: t.range(),
+            stu: t.stu,
+            e,
+            before: received_count(t),
+            payload,
         }
     }
-    true
+
+    // Do all translations fit? A closure for `all` would need a contract of its own, for its sum.
+    #[tactic(auto, using(lemmas::proofs::All::all_start, lemmas::proofs::All::all_turn), unfolding(crate::specs::Fits::all_fit))]
+    fn all_fit(&self) -> bool
+        ensures { result ≡ all_fit self.now.range self.now.e self.now.before self.now.payload.now }
+    {
+        for i in 0..self.payload.len() / 8 {
+            let size = tlp::translation_at(self.payload, i).size;
+            if !translation_fits(self.range, self.e, self.before + i as u64, size) {
+                return false;
+            }
+        }
+        true
+    }
+
+    // Updates a unit if one of the translations covers it.
+    #[tactic(auto, using(lemmas::proofs::Cases::cases), unfolding(crate::specs::Fills::updated_if_covered))]
+    fn update_if_covered(&self, c: &mut Cache, unit: u64)
+        ensures { c.new ≡ updated_if_covered self.now.range.first self.now.e self.now.before unit self.now.payload.now c.old }
+    {
+        let first = ranges::region_number(self.range.first, self.e);
+        let k = ranges::region_number(unit, self.e).saturating_sub(first);
+        if k < self.before {
+            return;
+        }
+        if k - self.before < (self.payload.len() / 8) as u64 {
+            let x = tlp::translation_at(self.payload, (k - self.before) as usize);
+            update_unit(c, x, self.e, unit);
+        }
+    }
+
+    // Updates unit j of the range, if the range has that many.
+    #[tactic(auto, using(lemmas::proofs::Cases::cases, lemmas::proofs::Tests::over_ltb), unfolding(crate::specs::Fills::updated_at))]
+    fn update_at(&self, c: &mut Cache, j: u64)
+        requires { j ≤ 15 }
+        ensures { c.new ≡ updated_at self.now.range self.now.stu self.now.e self.now.before self.now.payload.now j c.old }
+    {
+        let offset = j * ranges::unit_bytes(self.stu);
+        if 0xFFFF_FFFF_FFFF_FFFF - self.range.first < offset {
+            return;
+        }
+        let unit = self.range.first + offset;
+        if unit <= self.range.last {
+            self.update_if_covered(c, unit);
+        }
+    }
 }
 
 #[tactic(auto, using(lemmas::proofs::Cases::cases), unfolding(crate::specs::Fits::size_fits))]
-fn size_fits(t: PendingTranslation, size: Size, payload: &[u8]) -> bool
+fn size_fits(t: PendingTranslation, size: Option<u32>, payload: &[u8]) -> bool
     ensures { result ≡ size_fits t size payload.now }
 {
     match size {
-        Size::Exponent(e) => {
-            if e < ranges::unit_exponent(t.stu) {
-                false
-            } else {
-                all_fit(tags::translation_range(t), e, received_count(t), payload)
-            }
-        }
-        Size::NoSize => false,
+        Some(e) => ranges::unit_exponent(t.stu) <= e && Load::of(t, e, payload).all_fit(),
+        None => false,
     }
 }
 
@@ -211,18 +229,7 @@ fn size_fits(t: PendingTranslation, size: Size, payload: &[u8]) -> bool
 fn translations_fit(t: PendingTranslation, payload: &[u8]) -> bool
     ensures { result ≡ translations_fit t payload.now }
 {
-    let size = common_size(t, payload);
-    size_fits(t, size, payload)
-}
-
-fn if_fits(t: PendingTranslation, payload: &[u8], part: Part) -> Part
-    ensures { result ≡ cond (translations_fit t payload.now) part Part.Misfit }
-{
-    if translations_fit(t, payload) {
-        part
-    } else {
-        Part::Misfit
-    }
+    size_fits(t, common_size(t, payload), payload)
 }
 
 // Classifies a completion, with its translations. Nothing changes.
@@ -232,20 +239,8 @@ pub fn classify(t: PendingTranslation, rcb: Rcb, count: u16, lower: u8, payload:
 {
     let part = part_of(t, rcb, count, lower, payload.len());
     match part {
-        Part::Misfit => part,
-        Part::OffBoundary => part,
-        Part::First => if_fits(t, payload, part),
-        Part::Last => if_fits(t, payload, part),
-    }
-}
-
-fn translated_address(x: Translation, e: u32, unit: u64) -> u64
-    ensures { result ≡ cond x.u 0 (relocated x.base unit e) }
-{
-    if x.u {
-        0
-    } else {
-        ranges::relocate(x.base, unit, e)
+        Part::First | Part::Last if !translations_fit(t, payload) => Part::Misfit,
+        _ => part,
     }
 }
 
@@ -254,13 +249,16 @@ fn entry_of(x: Translation, e: u32, unit: u64) -> Entry
     ensures { result ≡ entry_of x e unit }
 {
     Entry {
-        used: true,
         r: x.r,
         w: x.w,
         n: x.n,
         u: x.u,
         unit,
-        to: translated_address(x, e, unit),
+        to: if x.u {
+            0
+        } else {
+            ranges::relocate(x.base, unit, e)
+        },
     }
 }
 
@@ -268,93 +266,42 @@ fn entry_of(x: Translation, e: u32, unit: u64) -> Entry
 fn allows_access(x: Translation) -> bool
     ensures { result ≡ allows_access x }
 {
-    if x.r { true } else { x.w }
+    x.r || x.w
 }
 
 // Stores the entry of a unit, or deletes it if the translation allows no access.
 #[tactic(auto, using(lemmas::proofs::Cases::cases), unfolding(crate::specs::Fills::unit_updated))]
-fn update_unit(c: Cache, x: Translation, e: u32, unit: u64) -> Cache
-    ensures { result ≡ unit_updated x e unit c }
+fn update_unit(c: &mut Cache, x: Translation, e: u32, unit: u64)
+    ensures { c.new ≡ unit_updated x e unit c.old }
 {
     if allows_access(x) {
-        let entry = entry_of(x, e, unit);
-        atc::fill(c, entry)
+        c.fill(entry_of(x, e, unit));
     } else {
-        atc::drop_unit(c, unit)
+        c.drop_unit(unit);
     }
 }
 
-// Updates a unit if one of the payload's translations covers it. `first` is the start of the range.
-#[tactic(auto, using(lemmas::proofs::Cases::cases), unfolding(crate::specs::Fills::updated_if_covered))]
-fn update_if_covered(c: Cache, first: u64, e: u32, before: u64, unit: u64, payload: &[u8]) -> Cache
-    requires { first ≤ unit }
-    ensures { result ≡ updated_if_covered first e before unit payload.now c }
+// Updates every unit of the request's range that the payload covers, in ascending order. A size that
+// is not there counts as 0 here and below, as in the definitions (`exponent_or0`).
+#[tactic(auto, using(lemmas::proofs::Iterate::iterate_start, lemmas::proofs::Iterate::iterate_turn), unfolding(crate::specs::Fills::applied, tags::specs::Tags::translation_range))]
+pub fn apply(c: &mut Cache, t: PendingTranslation, payload: &[u8])
+    ensures { c.new ≡ applied t payload.now c.old }
 {
-    let k = ranges::region_number(unit, e) - ranges::region_number(first, e);
-    if k < before {
-        return c;
+    let e = common_size(t, payload).unwrap_or(0);
+    let load = Load::of(t, e, payload);
+    for j in 0..1 + t.further as u64 % 16 {
+        load.update_at(c, j);
     }
-    if k - before < (payload.len() / 8) as u64 {
-        let x = tlp::translation_at(payload, (k - before) as usize);
-        update_unit(c, x, e, unit)
-    } else {
-        c
-    }
-}
-
-// Updates unit j of a range, if the range has that many.
-#[tactic(auto, using(lemmas::proofs::Cases::cases, lemmas::proofs::Tests::over_ltb), unfolding(crate::specs::Fills::updated_at))]
-fn update_at(c: Cache, range: Range, stu: u8, e: u32, before: u64, j: u64, payload: &[u8]) -> Cache
-    requires { j ≤ 15 }
-    ensures { result ≡ updated_at range stu e before payload.now j c }
-{
-    let offset = j * ranges::unit_bytes(stu);
-    if 0xFFFF_FFFF_FFFF_FFFF - range.first < offset {
-        return c;
-    }
-    let unit = range.first + offset;
-    if range.last < unit {
-        return c;
-    }
-    update_if_covered(c, range.first, e, before, unit, payload)
-}
-
-// Updates every unit of the request's range that the payload covers, in ascending order.
-pub fn apply(c: Cache, t: PendingTranslation, payload: &[u8]) -> Cache
-    ensures { result ≡ applied t payload.now c }
-{
-    let range = tags::translation_range(t);
-    let stu = t.stu;
-    let size = common_size(t, payload);
-    let e = exponent_or_0(size);
-    let before = received_count(t);
-    let n = 1 + t.further as u64 % 16;
-    let mut next = c;
-    let mut j: u64 = 0;
-    while j < n {
-        next = update_at(next, range, stu, e, before, j, payload);
-        j += 1;
-    }
-    next
 }
 
 // The request after the first of two packets.
-pub fn after_first(mut t: PendingTranslation, count: u16, payload: &[u8]) -> PendingTranslation
+pub fn after_first(t: PendingTranslation, count: u16, payload: &[u8]) -> PendingTranslation
     ensures { result ≡ after_first t count payload.now }
 {
-    let size = common_size(t, payload);
-    t.size = exponent_or_0(size);
-    t.whole = count;
-    t.due = rest(count, payload.len());
-    t
-}
-
-fn rest(count: u16, bytes: usize) -> u16
-    ensures { result ≡ count - bytes }
-{
-    if (count as usize) < bytes {
-        0
-    } else {
-        count - bytes as u16
+    PendingTranslation {
+        size: common_size(t, payload).unwrap_or(0),
+        whole: count,
+        due: usize::from(count).saturating_sub(payload.len()) as u16,
+        ..t
     }
 }

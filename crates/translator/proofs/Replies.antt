@@ -1,4 +1,5 @@
 -- The reply reads back, and depends on the visited entries alone.
+use Rattle.std.specs.Prelude.{Err, Ok, Result}
 use mathlib.Core.Path.{◌≡◌, refl, sym, ap, ◌∙◌}
 use mathlib.Core.Bool.{Bool, true, false}
 use mathlib.Core.List.{List, [], ◌∷◌}
@@ -20,7 +21,6 @@ use Rattle.packet.specs.declared.Outcome.TheVariants.{Data, Status}
 use Rattle.packet.specs.declared.Packet.{Packet}
 use Rattle.packet.specs.declared.Tag.{Tag}
 use Rattle.packet.specs.declared.TranslationRequest.{TranslationRequest}
-use Rattle.packet.specs.Numbers.{Result, ok, refusal}
 use Rattle.packet.specs.Among.{is_among}
 use Rattle.packet.specs.Frames.{decode_frame, eight_bytes}
 use Rattle.packet.specs.Forms.{dword_count}
@@ -46,7 +46,7 @@ use Rattle.translator.specs.declared.Reply.{Reply}
 use Rattle.translator.specs.declared.Report.{Report}
 use Rattle.translator.specs.Translator.{final_rights, translation_with, null_translation, translation_to, reply_packet, Prepared, reply_to, Observation, refused_with, replied_if, answering, translating_body, translating_if, translating}
 use Rattle.translator.specs.Replies.{ValidRequest, due_reply, Holds, ReadsBack, host_numbers, HostReplies}
-use Rattle.translator.proofs.Laws.{few_dwords}
+use Rattle.translator.proofs.Laws.{request_dwords, answered}
 
 -- ---- a reply can be written if there is room
 
@@ -93,44 +93,37 @@ no_write_held t NotLent load h n = rw h
 
 -- ---- the call
 
-replied_ok : (what : Reply) (visits : ℕ) (w : Result ℕ) (r : Report) → replied_if what visits w ≡ ok r → w ≡ ok r.length
-replied_ok what visits (ok n) r e = ap (λ (x : Report). ok x.length) (ok_injective e)
-replied_ok what visits (refusal n) r e = impossible cc
+replied_ok : (what : Reply) (visits : ℕ) (w : Result ℕ ℕ) (r : Report) → replied_if what visits w ≡ Ok r → w ≡ Ok r.length
+replied_ok what visits (Ok n) r e = ap (λ (x : Report). Ok x.length) (ok_injective e)
+replied_ok what visits (Err n) r e = impossible cc
 
-replied_visited : (what : Reply) (visited : ℕ) (w : Result ℕ) (r : Report) → replied_if what visited w ≡ ok r → r.visited ≡ visited
-replied_visited what visited (ok n) r e = ap (λ (x : Report). x.visited) (sym (ok_injective e))
-replied_visited what visited (refusal n) r e = impossible cc
+replied_visited : (what : Reply) (visited : ℕ) (w : Result ℕ ℕ) (r : Report) → replied_if what visited w ≡ Ok r → r.visited ≡ visited
+replied_visited what visited (Ok n) r e = ap (λ (x : Report). x.visited) (sym (ok_injective e))
+replied_visited what visited (Err n) r e = impossible cc
 
-module _ (host : ℕ) (b : List ℕ) (p : Packet) (t : TranslationRequest) (read : reading b ≡ ok p) (request : p.body ≡ Tr t) where
+module _ (host : ℕ) (b : List ℕ) (p : Packet) (t : TranslationRequest) (read : reading b ≡ Ok p) (request : p.body ≡ Tr t) where
   -- what reading gives
   tc_lt : p.head.tc < 8
   unfolding decode_frame
   tc_lt = rw (← (taken b p read).whole) (omega arith)
-
-  pub request_dwords : (2 ≤ t.dwords) × (t.dwords ≤ 32)
-  request_dwords = few_dwords p.head.tc t (rw request at (taken b p read).allows)
 
   due_writes : (e : End) (room : ℕ)
       → writing (reply_to host p.head t e).packet (length (reply_to host p.head t e).payload) room ≡ check_room (12 + length (reply_to host p.head t e).payload) room
   due_writes (Mapped m) room = writes host p.head t.tag 8 120 room tc_lt (lit≤ tt) (lit≤ tt) (Data 2) refl refl
   due_writes Unmapped room = writes host p.head t.tag 8 120 room tc_lt (lit≤ tt) (lit≤ tt) (Data 2) refl refl
   due_writes NotLent room =
-      writes host p.head t.tag (4 * t.dwords) 0 room tc_lt (omega (arith, request_dwords.1)) (lit≤ tt) (Status 4) refl refl
-
-  answered : (entries out : List ℕ) → translating host b entries out ≡ answering host p.head t (walked entries t.address) out
-  unfolding translating translating_body
-  answered entries out = rw (read, request)
+      writes host p.head t.tag (4 * t.dwords) 0 room tc_lt (omega (arith, (request_dwords b p read t request).1)) (lit≤ tt) (Status 4) refl refl
 
   answers : (entries out : List ℕ) → (translating host b entries out).answer ≡ replied_if (due_reply host entries p t).reply (length (walked entries t.address).visits) (check_room (12 + length (due_reply host entries p t).payload) (length out))
   answers entries out =
-      rw (answered entries out) (ap (replied_if (due_reply host entries p t).reply (length (walked entries t.address).visits)) (due_writes (walked entries t.address).end (length out)))
+      rw (answered b p read t request host entries out) (ap (replied_if (due_reply host entries p t).reply (length (walked entries t.address).visits)) (due_writes (walked entries t.address).end (length out)))
 
   same_tables : (s u out : List ℕ) → length s ≡ length u → SameAt 3 (walked s t.address).visits s u
       → translating host b s out ≡ translating host b u out
   same_tables s u out long same =
-      answered s out
+      answered b p read t request host s out
       ∙ ap (λ (k : Walked). answering host p.head t k out) (only_visits_matter.same s u t.address long same)
-      ∙ sym (answered u out)
+      ∙ sym (answered b p read t request host u out)
 
 module _ (host : ℕ) (b : List ℕ) (p : Packet) (t : TranslationRequest) (v : ValidRequest host b p t) where
   pub typed_request : TypedBody (Tr t)
@@ -151,7 +144,7 @@ module _ (host : ℕ) (b : List ℕ) (p : Packet) (t : TranslationRequest) (v : 
   due_holds Unmapped s = decodes_null
   due_holds NotLent s = refl
 
-  module _ (entries out : List ℕ) (r : Report) (e : (translating host b entries out).answer ≡ ok r) where
+  module _ (entries out : List ℕ) (r : Report) (e : (translating host b entries out).answer ≡ Ok r) where
     abbrev x : Prepared
     x = due_reply host entries p t
 
@@ -159,9 +152,9 @@ module _ (host : ℕ) (b : List ℕ) (p : Packet) (t : TranslationRequest) (v : 
     w = walked entries t.address
 
     is : translating host b entries out ≡ answering host p.head t w out
-    is = answered host b p t v.read v.request entries out
+    is = answered b p v.read t v.request host entries out
 
-    written : writing x.packet (length x.payload) (length out) ≡ ok r.length
+    written : writing x.packet (length x.payload) (length out) ≡ Ok r.length
     written = replied_ok x.reply (length w.visits) _ r (rw is at e)
 
     visited_is : r.visited ≡ length w.visits
@@ -189,28 +182,28 @@ module _ (host : ℕ) (b : List ℕ) (p : Packet) (t : TranslationRequest) (v : 
 
 -- refused with one of the numbers, and nothing written
 abbrev Refuses : List ℕ → Observation → Type 0
-Refuses out o = (n : ℕ) → o.answer ≡ refusal n → (is_among n host_numbers ≡ true) × (o.buffer ≡ out)
+Refuses out o = (n : ℕ) → o.answer ≡ Err n → (is_among n host_numbers ≡ true) × (o.buffer ≡ out)
 
 module _ (host : ℕ) (b entries out : List ℕ) where
   refuses_with : (n : ℕ) → is_among n host_numbers ≡ true → Refuses out (refused_with n out)
   refuses_with n h k e = let same : n ≡ k = cc in (rw same at h, refl)
 
   -- a reply that can be written is refused only for want of room
-  refuses_written : (what : Reply) (visits : ℕ) (bytes : List ℕ) (w : Result ℕ) → Among host_numbers w
+  refuses_written : (what : Reply) (visits : ℕ) (bytes : List ℕ) (w : Result ℕ ℕ) → Among host_numbers w
       → Refuses out (record { answer = replied_if what visits w; buffer = buffer_after w bytes out })
-  refuses_written what visits bytes (ok n) a k e = impossible cc
-  refuses_written what visits bytes (refusal n) a k e = let same : n ≡ k = cc in (rw same at (a.one n refl), refl)
+  refuses_written what visits bytes (Ok n) a k e = impossible cc
+  refuses_written what visits bytes (Err n) a k e = let same : n ≡ k = cc in (rw same at (a.one n refl), refl)
 
-  refuses_due : (p : Packet) (t : TranslationRequest) → reading b ≡ ok p → p.body ≡ Tr t → (w : Walked)
+  refuses_due : (p : Packet) (t : TranslationRequest) → reading b ≡ Ok p → p.body ≡ Tr t → (w : Walked)
       → Refuses out (answering host p.head t w out)
   refuses_due p t read request w =
       let x = reply_to host p.head t w.end in
       let n = 12 + length x.payload in
       rw (due_writes host b p t read request w.end (length out))
       (refuses_written x.reply (length w.visits) (bytes_of x.packet x.payload) (check_room n (length out))
-      (among_case host_numbers (ltb (length out) n) (refusal 17) (ok n) (λ short. among_refusal host_numbers 17 refl) (λ fits. among_ok host_numbers n)))
+      (among_case host_numbers (ltb (length out) n) (Err 17) (Ok n) (λ short. among_refusal host_numbers 17 refl) (λ fits. among_ok host_numbers n)))
 
-  refuses_body : (p : Packet) → reading b ≡ ok p → (y : Body) → p.body ≡ y → Refuses out (translating_body host entries out p.head y)
+  refuses_body : (p : Packet) → reading b ≡ Ok p → (y : Body) → p.body ≡ y → Refuses out (translating_body host entries out p.head y)
   unfolding translating_body
   refuses_body p read (Tr t) request = refuses_due p t read request (walked entries t.address)
   refuses_body p read (Mem m) e = refuses_with 2 refl
@@ -220,9 +213,9 @@ module _ (host : ℕ) (b entries out : List ℕ) where
   refuses_body p read (Prq q) e = refuses_with 2 refl
   refuses_body p read (Prs s) e = refuses_with 2 refl
 
-  refuses_read : (s : Result Packet) → reading b ≡ s → Refuses out (translating_if host entries out s)
-  refuses_read (ok p) e = refuses_body p e p.body refl
-  refuses_read (refusal n) e =
+  refuses_read : (s : Result Packet ℕ) → reading b ≡ s → Refuses out (translating_if host entries out s)
+  refuses_read (Ok p) e = refuses_body p e p.body refl
+  refuses_read (Err n) e =
       refuses_with n ((among_monotone (1 ∷ 2 ∷ 3 ∷ 4 ∷ []) host_numbers (reading b) refl (reading_numbers b)).one n e)
 
   refuses : Refuses out (translating host b entries out)

@@ -1,6 +1,5 @@
 -- The host's translator: the reply to a Translation Request, by a page walk. 02, "b".
-use Rattle.std.specs.Prelude.{Bool, false, cond, not, ◌&&◌, List, [], ℕ, ◌*◌, length}
-use Rattle.ranges.specs.declared.Size.TheVariants.{Exponent}
+use Rattle.std.specs.Prelude.{Bool, false, cond, not, ◌&&◌, List, [], ℕ, ◌*◌, length, Err, Ok, Result, Some}
 use Rattle.ranges.specs.declared.Translation.{Translation}
 use Rattle.ranges.specs.Size.{word_of}
 use Rattle.packet.specs.declared.Body.{Body}
@@ -11,7 +10,7 @@ use Rattle.packet.specs.declared.Outcome.TheVariants.{Data, Status}
 use Rattle.packet.specs.declared.Packet.{Packet}
 use Rattle.packet.specs.declared.Tag.{Tag}
 use Rattle.packet.specs.declared.TranslationRequest.{TranslationRequest}
-use Rattle.packet.specs.Numbers.{Result, ok, refusal, number_of}
+use Rattle.packet.specs.Numbers.{numbered}
 use Rattle.packet.specs.Frames.{eight_bytes}
 use Rattle.packet.specs.Kinds.{attr_zero}
 use Rattle.packet.specs.Reading.{reading}
@@ -24,8 +23,7 @@ use Rattle.walk.specs.Walk.{is_none, Walked, walked}
 use Rattle.translator.specs.declared.Reply.{Reply}
 use Rattle.translator.specs.declared.Reply.TheVariants.{Successful, CompleterAbort}
 use Rattle.translator.specs.declared.Report.{Report}
-use Rattle.translator.specs.declared.Translating.{Translating}
-use Rattle.translator.specs.declared.Translating.TheVariants.{Replied, Refused}
+use Rattle.packet.specs.declared.Refusal.{Refusal}
 
 -- ---- the translation that a walk gives
 
@@ -35,7 +33,7 @@ final_rights nowrite g = record { r = g.r; w = g.w && not nowrite }
 
 -- 2 ^ e bytes at a base, with these rights; N and U are clear
 abbrev pub translation_with : ℕ → ℕ → Rights → Translation
-translation_with base e g = record { base = base; size = Exponent e; n = false; u = false; w = g.w; r = g.r }
+translation_with base e g = record { base = base; size = Some e; n = false; u = false; w = g.w; r = g.r }
 
 -- 4096 bytes at address 0, with R and W clear
 abbrev pub null_translation : Translation
@@ -86,16 +84,16 @@ reply_to host h t NotLent = status_reply host h t.tag t.dwords
 -- ---- the call: its answer, and the buffer after it
 
 pub record Observation : Type 0 where
-  pub answer : Result Report
+  pub answer : Result Report ℕ
   pub buffer : List ℕ
 
 -- a refused call leaves the buffer unchanged
 abbrev pub refused_with : ℕ → List ℕ → Observation
-refused_with n out = record { answer = refusal n; buffer = out }
+refused_with n out = record { answer = Err n; buffer = out }
 
-abbrev pub replied_if : Reply → ℕ → Result ℕ → Result Report
-replied_if reply visited (ok n) = ok (record { reply = reply; length = n; visited = visited })
-replied_if reply visited (refusal n) = refusal n
+abbrev pub replied_if : Reply → ℕ → Result ℕ ℕ → Result Report ℕ
+replied_if reply visited (Ok n) = Ok (record { reply = reply; length = n; visited = visited })
+replied_if reply visited (Err n) = Err n
 
 -- the reply is written if there is room, otherwise refused with 17; `visited` entries were read
 abbrev pub replying : Prepared → ℕ → List ℕ → Observation
@@ -120,17 +118,12 @@ translating_body host entries out h (Prq q) = refused_with 2 out
 translating_body host entries out h (Prs s) = refused_with 2 out
 
 -- the refusals of reading come first
-abbrev pub translating_if : ℕ → List ℕ → List ℕ → Result Packet → Observation
-translating_if host entries out (ok p) = translating_body host entries out p.head p.body
-translating_if host entries out (refusal n) = refused_with n out
+abbrev pub translating_if : ℕ → List ℕ → List ℕ → Result Packet ℕ → Observation
+translating_if host entries out (Ok p) = translating_body host entries out p.head p.body
+translating_if host entries out (Err n) = refused_with n out
 
 unfoldable pub translating : ℕ → List ℕ → List ℕ → List ℕ → Observation
 translating host b entries out = translating_if host entries out (reading b)
 
--- the result of an answer of the code
-abbrev pub translate_result : Translating → Result Report
-translate_result (Replied x) = ok x
-translate_result (Refused r) = refusal (number_of r)
-
-abbrev pub observation : Translating → List ℕ → Observation
-observation a out = record { answer = translate_result a; buffer = out }
+abbrev pub observation : Result Report Refusal → List ℕ → Observation
+observation a out = record { answer = numbered a; buffer = out }

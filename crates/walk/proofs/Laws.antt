@@ -1,12 +1,12 @@
 -- Laws of the page walk.
 use mathlib.Core.Path.{◌≡◌, refl, ap}
 use mathlib.Core.Bool.{Bool, true, false, cond, ◌||◌}
-use mathlib.Core.List.{List}
+use mathlib.Core.List.{List, [], ◌∷◌}
 use Prim.Native.Nat.{ℕ, zero, suc, ◌+◌, ◌-◌, ◌*◌, ◌^◌, ◌<◌, ◌≤◌}
 use native.Mathlib.Nat.{add-zero}
 use native.Mathlib.Omega.{arith}
 use lib.Dec.{eqb, leb}
-use lib.ListN.{length}
+use lib.ListN.{length, get_or}
 use borrow.Author.Tests.{le-leb, lt-leb, leb-false, ne_eqb}
 use Rattle.lemmas.proofs.Cases.{impossible, either_case}
 use Rattle.ranges.specs.declared.Range.{Range}
@@ -16,17 +16,20 @@ use Rattle.walk.specs.declared.Rights.{Rights}
 use Rattle.walk.specs.declared.End.{End}
 use Rattle.walk.specs.declared.End.TheVariants.{Mapped, Unmapped, NotLent}
 use Rattle.walk.specs.declared.Walk.{Walk}
-use Rattle.walk.specs.Walk.{Walked, rights_in, bits51_to12, all_rights, is_none, both_grant, is_lent, index_at, table_entry, is_large, ends_in, visiting, entry_read, page_of, walk_from, walked, counted}
+use Rattle.walk.specs.declared.Level.{Level}
+use Rattle.walk.specs.declared.Level.TheVariants.{One, Two, Three, Four}
+use Rattle.walk.specs.Walk.{Walked, rights_in, bits51_to12, all_rights, is_none, both_grant, is_lent, below, index_at, table_entry, is_large, ends_in, visiting, entry_read, page_of, walk_from, walked}
 
--- bit 7 counts at levels 2 and 3, which have two levels and one below
-pub middle_level : (n : ℕ) → (n ≡ 0 → ⊥) → n < 3 → (eqb n 1 || eqb n 2) ≡ true
-middle_level zero h l = absurd (h refl)
-middle_level (suc zero) h l = refl
-middle_level (suc (suc zero)) h l = refl
-middle_level (suc (suc (suc n))) h l = absurd (omega (arith, l))
-
-pub first_level : (n : ℕ) → 3 ≤ n → (eqb n 1 || eqb n 2) ≡ false
-first_level n h = rw (ne_eqb n 1 (λ e. absurd (omega (arith, e, h))), ne_eqb n 2 (λ e. absurd (omega (arith, e, h))))
+-- the level of a walk after v entries
+pub level_at : (v i : ℕ) (l : Level) → v ≡ i → v ≤ 3 → below (get_or (One ∷ Two ∷ Three ∷ Four ∷ []) i l) ≡ 3 - v
+level_at v i l e h = rw e (go i (rw e at h))
+  where
+    go : (i : ℕ) → i ≤ 3 → below (get_or (One ∷ Two ∷ Three ∷ Four ∷ []) i l) ≡ 3 - i
+    go zero h = refl
+    go (suc zero) h = refl
+    go (suc (suc zero)) h = refl
+    go (suc (suc (suc zero))) h = refl
+    go (suc (suc (suc (suc i)))) h = absurd (omega (arith, h))
 
 -- the walk at any level, the last one included
 pub at_level : (n : ℕ) (entries : List ℕ) (a k : ℕ) (above : Rights)
@@ -49,9 +52,6 @@ after v w = record { end = w.end; visited = v + length w.visits }
 
 pub after_none : (v : ℕ) (e : End) → after v (ends_in e) ≡ record { end = e; visited = v }
 after_none v e = ap (λ (n : ℕ). record { end = e; visited = n }) (add-zero v)
-
-pub after_start : (w : Walked) → counted w ≡ after 0 w
-after_start w = ap (λ (n : ℕ). record { end = w.end; visited = n }) (omega arith)
 
 pub after_one : (v k i : ℕ) (w : Walked) → after v (visiting k i w) ≡ after (v + 1) w
 after_one v k i w = ap (λ (n : ℕ). record { end = w.end; visited = n }) (omega arith)

@@ -7,6 +7,8 @@ use Rattle.walk.specs.declared.Mapping.{Mapping}
 use Rattle.walk.specs.declared.End.{End}
 use Rattle.walk.specs.declared.End.TheVariants.{Mapped, Unmapped, NotLent}
 use Rattle.walk.specs.declared.Walk.{Walk}
+use Rattle.walk.specs.declared.Level.{Level}
+use Rattle.walk.specs.declared.Level.TheVariants.{One, Two, Three, Four}
 
 -- ---- a table entry
 
@@ -50,6 +52,13 @@ table_entry entries k i = get_or entries (512 * k + i) 0
 -- bit 7 counts only at levels 2 and 3: the entry then maps a page of 1 GiB or 2 MiB
 abbrev pub is_large : ℕ → ℕ → Bool
 is_large n x = (eqb n 1 || eqb n 2) && bit x 7
+
+-- a level of the code, as the number of levels below
+abbrev pub below : Level → ℕ
+below One = 3
+below Two = 2
+below Three = 1
+below Four = 0
 
 -- the page that an entry maps; bits of its address below its size are ignored
 abbrev pub page_of : ℕ → ℕ → Rights → Mapping

@@ -1,8 +1,8 @@
 // The page walk of the host's translator: four levels of tables of 512 entries in one lent slice.
 #![tactic(auto)]
 
-ghost use Rattle.std.specs.Prelude.{◌≡◌, ◌&&◌, ◌||◌, ◌^◌, ◌<◌, ◌≤◌, eqb};
-ghost use Rattle.walk.specs.Walk.{rights_in, bits51_to12, is_none, both_grant, covered_exponent, index_at, is_large, page_of, walked, counted};
+ghost use Rattle.std.specs.Prelude.{◌≡◌, ◌||◌, ◌^◌, ◌<◌, eqb};
+ghost use Rattle.walk.specs.Walk.{rights_in, bits51_to12, is_none, both_grant, below, covered_exponent, index_at, is_large, page_of, walked, counted};
 
 use ranges::region;
 
@@ -10,6 +10,35 @@ use ranges::region;
 pub struct Rights {
     pub r: bool,
     pub w: bool,
+}
+
+impl Rights {
+    // R in bit 0, W in bit 1.
+    fn in_entry(entry: u64) -> Rights
+        ensures { result ≡ rights_in entry }
+    {
+        Rights {
+            r: entry % 2 == 1,
+            w: entry / 2 % 2 == 1,
+        }
+    }
+
+    // Does it grant neither right?
+    pub fn is_none(self) -> bool
+        ensures { result ≡ is_none self }
+    {
+        !(self.r || self.w)
+    }
+
+    // What both grant. `&` takes no branch, which `&&` would.
+    fn and(self, other: Rights) -> Rights
+        ensures { result ≡ both_grant self other }
+    {
+        Rights {
+            r: self.r & other.r,
+            w: self.w & other.w,
+        }
+    }
 }
 
 // A page of 2^exponent bytes, and the rights that every entry on the way to it grants.
@@ -36,16 +65,6 @@ pub struct Walk {
     pub visited: u32,
 }
 
-// R in bit 0, W in bit 1.
-fn rights_in(entry: u64) -> Rights
-    ensures { result ≡ rights_in entry }
-{
-    Rights {
-        r: entry % 2 == 1,
-        w: entry / 2 % 2 == 1,
-    }
-}
-
 // Which table comes next, or which page of 4096 bytes is meant.
 fn bits_51_to_12(entry: u64) -> u64
     ensures { (result ≡ bits51_to12 entry) × (result < 2 ^ 40) }
@@ -53,72 +72,49 @@ fn bits_51_to_12(entry: u64) -> u64
     entry / 4096 % 0x100_0000_0000
 }
 
-// Does it grant neither right?
-pub fn is_none(g: Rights) -> bool
-    ensures { result ≡ is_none g }
-{
-    if g.r {
-        false
-    } else {
-        if g.w { false } else { true }
+// A level of tables, and how many levels are below it.
+#[derive(Clone, Copy)]
+enum Level {
+    One = 3,
+    Two = 2,
+    Three = 1,
+    Four = 0,
+}
+
+impl Level {
+    // How much one entry covers.
+    fn covered_exponent(self) -> u32
+        ensures { result ≡ covered_exponent (below self) }
+    {
+        12 + 9 * self as u32
     }
-}
 
-fn both(a: bool, b: bool) -> bool
-    ensures { result ≡ (a && b) }
-{
-    if a { b } else { false }
-}
-
-fn both_grant(g: Rights, h: Rights) -> Rights
-    ensures { result ≡ both_grant g h }
-{
-    Rights {
-        r: both(g.r, h.r),
-        w: both(g.w, h.w),
+    fn index_at(self, address: u64) -> u64
+        ensures { (result ≡ index_at (below self) address) × (result < 512) }
+    {
+        (address >> self.covered_exponent()) % 512
     }
-}
 
-// How much one entry covers. In this file, `below` is the number of levels below the entry's: 3 at
-// level 1, 0 at level 4.
-fn covered_exponent(below: u32) -> u32
-    requires { below ≤ 3 }
-    ensures { (result ≡ covered_exponent below) × (result ≤ 39) }
-{
-    12 + 9 * below
-}
-
-fn index_at(below: u32, address: u64) -> u64
-    requires { below ≤ 3 }
-    ensures { (result ≡ index_at below address) × (result < 512) }
-{
-    (address >> covered_exponent(below)) % 512
-}
-
-// Does the entry map a page? Bit 7 is used at levels 2 and 3.
-fn is_page(below: u32, entry: u64) -> bool
-    ensures { result ≡ (eqb below 0 || is_large below entry) }
-{
-    if below == 0 {
-        return true;
+    // Does the entry map a page? Bit 7 is used at levels 2 and 3.
+    fn is_page(self, entry: u64) -> bool
+        ensures { result ≡ (eqb (below self) 0 || is_large (below self) entry) }
+    {
+        match self {
+            Level::One => false,
+            Level::Two | Level::Three => entry / 128 % 2 == 1,
+            Level::Four => true,
+        }
     }
-    if below < 3 {
-        entry / 128 % 2 == 1
-    } else {
-        false
-    }
-}
 
-fn page_of(below: u32, entry: u64, rights: Rights) -> Mapping
-    requires { below ≤ 3 }
-    ensures { result ≡ page_of below entry rights }
-{
-    let exponent = covered_exponent(below);
-    let base = region(bits_51_to_12(entry) * 4096, exponent).first;
-    Mapping {
-        base,
-        exponent,
-        rights,
+    fn page_of(self, entry: u64, rights: Rights) -> Mapping
+        ensures { result ≡ page_of (below self) entry rights }
+    {
+        let exponent = self.covered_exponent();
+        Mapping {
+            base: region(bits_51_to_12(entry) * 4096, exponent).first,
+            exponent,
+            rights,
+        }
     }
 }
 
@@ -133,34 +129,34 @@ pub fn walk_tables(entries: &[u64], address: u64) -> Walk
             visited: 0,
         };
     }
-    let mut visited: u32 = 0;
     let mut k: u64 = 0;
     let mut granted = Rights { r: true, w: true };
-    loop {
-        // One entry is read at each level.
-        let below = 3 - visited;
+    let mut visited: u32 = 0;
+    for level in [Level::One, Level::Two, Level::Three, Level::Four] {
         if (entries.len() as u64) < 512 * (k + 1) {
             return Walk {
                 end: End::NotLent,
                 visited,
             };
         }
-        let entry = entries[(512 * k + index_at(below, address)) as usize];
-        let own = rights_in(entry);
+        let entry = entries[(512 * k + level.index_at(address)) as usize];
+        let own = Rights::in_entry(entry);
         visited += 1;
-        granted = both_grant(granted, own);
-        if is_none(own) {
+        granted = granted.and(own);
+        if own.is_none() {
             return Walk {
                 end: End::Unmapped,
                 visited,
             };
         }
-        if is_page(below, entry) {
+        if level.is_page(entry) {
             return Walk {
-                end: End::Mapped(page_of(below, entry, granted)),
+                end: End::Mapped(level.page_of(entry, granted)),
                 visited,
             };
         }
         k = bits_51_to_12(entry);
     }
+    // Every entry of the fourth level maps a page.
+    unreachable!()
 }

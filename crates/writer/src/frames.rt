@@ -11,30 +11,24 @@ use packet::{
     byte_enables,
 };
 
+// `u8::from` and its bound at each of the nine uses is no plainer.
 fn bit(b: bool) -> u8
     ensures { (result ≡ bit_of b) × (result ≤ 1) }
 {
-    if b { 1 } else { 0 }
+    u8::from(b)
+}
+
+// The form with a 64-bit address only if the address needs it.
+fn form_for(a: u64, narrow: Form, wide: Form) -> Form
+    ensures { result ≡ cond (needs64_bits a) wide narrow }
+{
+    if 4294967296 <= a { wide } else { narrow }
 }
 
 fn read_form(a: u64) -> Form
     ensures { result ≡ cond (needs64_bits a) Mrd64 Mrd32 }
 {
-    if 4294967296 <= a {
-        Form::Mrd64
-    } else {
-        Form::Mrd32
-    }
-}
-
-fn write_form(a: u64) -> Form
-    ensures { result ≡ cond (needs64_bits a) Mwr64 Mwr32 }
-{
-    if 4294967296 <= a {
-        Form::Mwr64
-    } else {
-        Form::Mwr32
-    }
+    form_for(a, Form::Mrd32, Form::Mrd64)
 }
 
 fn access_form(access: Access, a: u64) -> Form
@@ -42,7 +36,7 @@ fn access_form(access: Access, a: u64) -> Form
 {
     match access {
         Access::Read(_) => read_form(a),
-        Access::Write => write_form(a),
+        Access::Write => form_for(a, Form::Mwr32, Form::Mwr64),
     }
 }
 
@@ -62,14 +56,8 @@ pub(crate) fn form_of(body: Body) -> Form
 {
     match body {
         Body::Tr(t) => read_form(t.address),
-        Body::Mem(m) => {
-            let access = m.access;
-            access_form(access, m.address)
-        }
-        Body::Cpl(c) => {
-            let outcome = c.outcome;
-            outcome_form(outcome)
-        }
+        Body::Mem(m) => access_form(m.access, m.address),
+        Body::Cpl(c) => outcome_form(c.outcome),
         Body::Inv(_) => Form::InvReq,
         Body::Ic(_) => Form::InvCpl,
         Body::Prq(_) => Form::PageReq,
@@ -145,13 +133,12 @@ fn access_tag(a: Access) -> u8
 fn mem(common: Common, m: MemoryRequest) -> Frame
     ensures { result ≡ packet_frame common (Mem m) }
 {
-    let access = m.access;
     Frame {
-        byte0: byte0(access_form(access, m.address)),
+        byte0: byte0(access_form(m.access, m.address)),
         common,
         at: bit(m.translated) * 2,
         dwords: m.dwords,
-        byte6: access_tag(access),
+        byte6: access_tag(m.access),
         byte7: byte_enables(m.dwords),
         dword8: address_dword8(m.address),
         dword12: address_dword12(m.address),
@@ -181,13 +168,12 @@ fn outcome_status(o: Outcome) -> u8
 fn cpl(common: Common, c: Completion) -> Frame
     ensures { result ≡ packet_frame common (Cpl c) }
 {
-    let outcome = c.outcome;
     Frame {
-        byte0: byte0(outcome_form(outcome)),
+        byte0: byte0(outcome_form(c.outcome)),
         common,
         at: 0,
-        dwords: outcome_dwords(outcome),
-        byte6: outcome_status(outcome) % 8 * 32 + (c.count / 256 % 16) as u8,
+        dwords: outcome_dwords(c.outcome),
+        byte6: outcome_status(c.outcome) % 8 * 32 + (c.count / 256 % 16) as u8,
         byte7: (c.count % 256) as u8,
         dword8: c.requester as u32 * 65536 + c.tag.0 as u32 * 256 + c.lower as u32,
         dword12: 0,
@@ -278,10 +264,9 @@ fn attr_bits(a: Attr) -> u8
 fn common(h: Head) -> Common
     ensures { result ≡ common_of h }
 {
-    let attr = h.attr;
     Common {
         tc: h.tc,
-        attr: attr_bits(attr),
+        attr: attr_bits(h.attr),
         marks: 0,
         sender: h.sender,
     }

@@ -5,44 +5,70 @@
 mod frames;
 mod limits;
 
-ghost use Rattle.std.specs.Prelude.{◌≡◌, ◌++◌, ◌+◌, ◌≤◌, length, drop};
-ghost use Rattle.packet.specs.Frames.{encode_frame};
+ghost use Rattle.std.specs.Prelude.{◌≡◌, ◌/◌, ◌%◌, [], ◌∷◌, ◌++◌, ◌+◌, ◌≤◌, length, drop};
+ghost use Rattle.packet.specs.Frames.{encode_frame, four_bytes, eight_bytes};
 ghost use Rattle.packet.specs.Forms.{payload_offset};
 ghost use Rattle.packet.specs.Kinds.{form_of};
-ghost use Rattle.packet.specs.Writing.{write_result, bytes_of, check_room, writing, buffer_after};
+ghost use Rattle.packet.specs.Writing.{bytes_of, check_room, writing, buffer_after};
+ghost use Rattle.packet.specs.Numbers.{numbered};
 
-use packet::{Frame, Packet, Refusal, Writing, payload_offset};
+use packet::{Frame, Packet, Refusal, payload_offset};
+
+// These three give `to_be_bytes` the words of the specs. One generic function would need a trait with
+// a law for each type.
+fn two_bytes(n: u16) -> [u8; 2]
+    ensures { result ≡ (n / 256 % 256) ∷ (n % 256) ∷ [] }
+{
+    n.to_be_bytes()
+}
+
+fn four_bytes(n: u32) -> [u8; 4]
+    ensures { result ≡ four_bytes n }
+{
+    n.to_be_bytes()
+}
+
+fn eight_bytes(n: u64) -> [u8; 8]
+    ensures { result ≡ eight_bytes n }
+{
+    n.to_be_bytes()
+}
 
 // Encodes a frame as 24 bytes.
 fn encode_frame(f: Frame) -> [u8; 24]
     ensures { result ≡ encode_frame f }
 {
     let common = f.common;
+    let [length_high, length_low] = two_bytes(f.dwords % 1024);
+    let [sender_high, sender_low] = two_bytes(common.sender);
+    let [b8, b9, b10, b11] = four_bytes(f.dword8);
+    let [b12, b13, b14, b15] = four_bytes(f.dword12);
+    let [b16, b17, b18, b19, b20, b21, b22, b23] = eight_bytes(f.body);
     [
         f.byte0,
         common.tc % 8 * 16 + common.attr / 4 % 2 * 4,
-        common.attr % 4 * 16 + f.at % 4 * 4 + (f.dwords / 256 % 4) as u8,
-        (f.dwords % 256) as u8,
-        (common.sender / 256 % 256) as u8,
-        (common.sender % 256) as u8,
+        common.attr % 4 * 16 + f.at % 4 * 4 + length_high,
+        length_low,
+        sender_high,
+        sender_low,
         f.byte6,
         f.byte7,
-        (f.dword8 / 16777216 % 256) as u8,
-        (f.dword8 / 65536 % 256) as u8,
-        (f.dword8 / 256 % 256) as u8,
-        (f.dword8 % 256) as u8,
-        (f.dword12 / 16777216 % 256) as u8,
-        (f.dword12 / 65536 % 256) as u8,
-        (f.dword12 / 256 % 256) as u8,
-        (f.dword12 % 256) as u8,
-        (f.body / 4294967296 / 16777216 % 256) as u8,
-        (f.body / 4294967296 / 65536 % 256) as u8,
-        (f.body / 4294967296 / 256 % 256) as u8,
-        (f.body / 4294967296 % 256) as u8,
-        (f.body % 4294967296 / 16777216 % 256) as u8,
-        (f.body % 4294967296 / 65536 % 256) as u8,
-        (f.body % 4294967296 / 256 % 256) as u8,
-        (f.body % 4294967296 % 256) as u8,
+        b8,
+        b9,
+        b10,
+        b11,
+        b12,
+        b13,
+        b14,
+        b15,
+        b16,
+        b17,
+        b18,
+        b19,
+        b20,
+        b21,
+        b22,
+        b23,
     ]
 }
 
@@ -71,55 +97,46 @@ fn put(p: Packet, payload: &[u8], out: &mut [u8])
     requires { payload_offset (form_of p.body) + length payload.now ≤ length out.old }
     ensures { out.new ≡ bytes_of p payload.now ++ drop (length (bytes_of p payload.now)) out.old }
 {
-    let head = p.head;
-    let body = p.body;
-    let n = payload_offset(frames::form_of(body));
-    let front = encode_frame(frames::packet_frame(head, body));
+    let n = payload_offset(frames::form_of(p.body));
+    let front = encode_frame(frames::packet_frame(p.head, p.body));
     lay(&front[..n], payload, out);
 }
 
-fn check_room(n: usize, room: usize) -> Writing
-    ensures { write_result result ≡ check_room n room }
+fn check_room(n: usize, room: usize) -> Result<usize, Refusal>
+    ensures { numbered result ≡ check_room n room }
 {
     if room < n {
-        Writing::Refused(Refusal::BufferTooShort)
-    } else {
-        Writing::Written(n)
+        return Err(Refusal::BufferTooShort);
     }
+    Ok(n)
 }
 
 // The result of writing, for a payload of `load` bytes and a buffer of `room` bytes.
 #[tactic(auto, using(lemmas::proofs::Cases::cases), unfolding(packet::specs::Writing::writing))]
-fn answer(p: Packet, load: usize, room: usize) -> Writing
-    ensures { write_result result ≡ writing p load room }
+fn answer(p: Packet, load: usize, room: usize) -> Result<usize, Refusal>
+    ensures { numbered result ≡ writing p load room }
 {
     let tc = p.head.tc;
     let body = p.body;
     let within = limits::are_fields_in_range(tc, body);
     let due = limits::payload_length(body);
     let allowed = packet::is_allowed(tc, body);
-    if within {
-        if load != due {
-            return Writing::Refused(Refusal::BadArgument);
-        }
-        if allowed {
-            return check_room(payload_offset(frames::form_of(body)) + load, room);
-        }
-        return Writing::Refused(Refusal::ForbiddenValue);
+    if !within || load != due {
+        return Err(Refusal::BadArgument);
     }
-    Writing::Refused(Refusal::BadArgument)
+    if !allowed {
+        return Err(Refusal::ForbiddenValue);
+    }
+    check_room(payload_offset(frames::form_of(body)) + load, room)
 }
 
 // Writes a packet to the start of `out`. A refused packet leaves `out` unchanged.
-pub fn write_packet(p: Packet, payload: &[u8], out: &mut [u8]) -> Writing
-    ensures answer { write_result result ≡ writing p (length payload.now) (length out.old) }
+#[tactic(auto, using(packet::proofs::Laws::accepted))]
+pub fn write_packet(p: Packet, payload: &[u8], out: &mut [u8]) -> Result<usize, Refusal>
+    ensures answer { numbered result ≡ writing p (length payload.now) (length out.old) }
     ensures buffer { out.new ≡ buffer_after (writing p (length payload.now) (length out.old)) (bytes_of p payload.now) out.old }
 {
-    match answer(p, payload.len(), out.len()) {
-        Writing::Written(n) => {
-            put(p, payload, out);
-            Writing::Written(n)
-        }
-        Writing::Refused(r) => Writing::Refused(r),
-    }
+    let written = answer(p, payload.len(), out.len())?;
+    put(p, payload, out);
+    Ok(written)
 }

@@ -4,12 +4,6 @@ ghost use Rattle.packet.specs.Kinds.{outcome_in_range, body_in_range, access_pay
 
 use packet::{Access, Body, Outcome, dword_count};
 
-fn both(a: bool, b: bool) -> bool
-    ensures { result ≡ (a && b) }
-{
-    if a { b } else { false }
-}
-
 fn is_outcome_in_range(o: Outcome) -> bool
     ensures { result ≡ outcome_in_range o }
 {
@@ -24,19 +18,13 @@ fn is_body_in_range(body: Body) -> bool
     ensures { result ≡ body_in_range body }
 {
     match body {
-        Body::Tr(t) => both(t.dwords < 1024, t.address % 4096 == 0),
-        Body::Mem(m) => both(m.dwords < 1024, m.address % 4 == 0),
-        Body::Cpl(c) => {
-            let outcome = c.outcome;
-            both(
-                c.count < 4096,
-                both(c.lower < 128, is_outcome_in_range(outcome)),
-            )
-        }
-        Body::Inv(i) => both(i.itag.0 < 32, i.address % 4096 == 0),
+        Body::Tr(t) => t.dwords < 1024 && t.address % 4096 == 0,
+        Body::Mem(m) => m.dwords < 1024 && m.address % 4 == 0,
+        Body::Cpl(c) => c.count < 4096 && c.lower < 128 && is_outcome_in_range(c.outcome),
+        Body::Inv(i) => i.itag.0 < 32 && i.address % 4096 == 0,
         Body::Ic(i) => i.cc < 8,
-        Body::Prq(q) => both(q.page % 4096 == 0, q.index.0 < 512),
-        Body::Prs(s) => both(s.code < 16, s.index.0 < 512),
+        Body::Prq(q) => q.page % 4096 == 0 && q.index.0 < 512,
+        Body::Prs(s) => s.code < 16 && s.index.0 < 512,
     }
 }
 
@@ -44,7 +32,7 @@ fn is_body_in_range(body: Body) -> bool
 pub(crate) fn are_fields_in_range(tc: u8, body: Body) -> bool
     ensures { result ≡ (ltb tc 8 && body_in_range body) }
 {
-    both(tc < 8, is_body_in_range(body))
+    tc < 8 && is_body_in_range(body)
 }
 
 fn access_payload_length(a: Access, dwords: u16) -> usize
@@ -72,14 +60,8 @@ pub(crate) fn payload_length(body: Body) -> usize
 {
     match body {
         Body::Tr(_) => 0,
-        Body::Mem(m) => {
-            let access = m.access;
-            access_payload_length(access, m.dwords)
-        }
-        Body::Cpl(c) => {
-            let outcome = c.outcome;
-            outcome_payload_length(outcome)
-        }
+        Body::Mem(m) => access_payload_length(m.access, m.dwords),
+        Body::Cpl(c) => outcome_payload_length(c.outcome),
         Body::Inv(_) => 0,
         Body::Ic(_) => 0,
         Body::Prq(_) => 0,

@@ -1,10 +1,7 @@
 use mathlib.Core.Path.{◌≡◌}
-use Prim.Native.Nat.{◌≤◌, ◌-◌}
+use Prim.Native.Nat.{◌-◌}
 use Rattle.ranges.specs.Size.{lowest_zero}
 use Rattle.ranges.proofs.lowest_zero.Given as goal
 
 abbrev pub invariant-loop-b : goal.invariant-loop-b
-invariant-loop-b l = (12 ≤ l.b) × (l.b ≤ 64) × (lowest_zero 52 12 l.x ≡ lowest_zero (64 - l.b) l.b l.x)
-
-abbrev pub decreases-loop-b : goal.decreases-loop-b
-decreases-loop-b l = 64 - l.b
+invariant-loop-b l = lowest_zero 52 12 l.x ≡ lowest_zero (64 - l.b) l.b l.x

@@ -4,9 +4,6 @@ use Rattle.walk.specs.Walk.{walk_from, walked, counted}
 use Rattle.walk.proofs.Laws.{after}
 use Rattle.walk.proofs.walk_tables.Given as goal
 
-abbrev pub invariant-loop-k : goal.invariant-loop-k
-invariant-loop-k l =
-    (l.visited ≤ 3) × (l.k < 2 ^ 40) × (counted (walked l.entries l.address) ≡ after l.visited (walk_from (3 - l.visited) l.entries l.address l.k l.granted))
-
-abbrev pub decreases-loop-k : goal.decreases-loop-k
-decreases-loop-k l = 4 - l.visited
+abbrev pub invariant-loop-level : goal.invariant-loop-level
+invariant-loop-level l =
+    (l.visited ≡ l.level-index) × (l.visited ≤ 3) × (l.k < 2 ^ 40) × (counted (walked l.entries l.address) ≡ after l.visited (walk_from (3 - l.visited) l.entries l.address l.k l.granted))
